@@ -1,5 +1,5 @@
 -- Where two edges meet, by the flags of their ends: when they clash.
-use Rattle.std.proofs.Common.{◌≡◌, ◌⊎◌, inl, inr, IsTrue, ℤ, pos, ◌-ℤ◌, ◌*ℤ◌, ◌≤ℤ◌, ◌<ℤ◌, refl, sym, ap, ◌∙◌, arith}
+use Rattle.std.proofs.Common.{◌≡◌, ◌↔◌, inl, inr, Bool, true, false, not, IsTrue, ℤ, pos, ◌*ℤ◌, refl, arith}
 use Rattle.std.proofs.lemmas.Int.{ints}
 use Rattle.grid_exact.specs.Geometry.{Place, CommonPoint}
 use Rattle.grid_exact.specs.Clash.{Flags, IsLawful, Clash}
@@ -73,8 +73,13 @@ lawful a b c d flags m (AtEndAndStart may e) h =
     let t = none h.denominator h.second (m.second h k) in
     elim may [ inl p ↦ EndAndStart s t p.0 p.1 | inr p ↦ Next s t p ]
 
-pub clash_at_point : (a b c d : Place) (flags : Flags) → MeetAtPoint a b c d → ¬ (JoinLawfully a b c d flags) → Clash a b c d flags
+clash_at_point : (a b c d : Place) (flags : Flags) → MeetAtPoint a b c d → ¬ (JoinLawfully a b c d flags) → Clash a b c d flags
 clash_at_point a b c d flags m other = record { common = m.common; unlawful = λ l. other (joined a b c d flags m.common l) }
 
-pub no_clash_at_point : (a b c d : Place) (flags : Flags) → MeetAtPoint a b c d → JoinLawfully a b c d flags → ¬ (Clash a b c d flags)
+no_clash_at_point : (a b c d : Place) (flags : Flags) → MeetAtPoint a b c d → JoinLawfully a b c d flags → ¬ (Clash a b c d flags)
 no_clash_at_point a b c d flags m j k = k.unlawful (lawful a b c d flags m j k.common)
+
+-- whether two ends may join tells whether edges clash that meet in one point
+pub clash_told : (a b c d : Place) (flags : Flags) (may_join : Bool) → MeetAtPoint a b c d → (IsTrue may_join ↔ JoinLawfully a b c d flags) → IsTrue (not may_join) ↔ Clash a b c d flags
+clash_told a b c d flags true m told = (λ t. cc, λ k. absurd (no_clash_at_point a b c d flags m (told.0 refl) k))
+clash_told a b c d flags false m told = (λ t. clash_at_point a b c d flags m (λ j. let no = told.1 j in cc), λ k. refl)

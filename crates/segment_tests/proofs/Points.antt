@@ -1,12 +1,12 @@
 -- Segments of which one has both ends strictly on one side of the other have no common point. Of the rest, those that are
 -- not on one line have just one.
-use Rattle.std.proofs.Common.{◌≡◌, ◌⊎◌, inl, inr, [], ◌∷◌, ℤ, pos, negsuc, ◌+ℤ◌, ◌-ℤ◌, ◌*ℤ◌, ◌≤ℤ◌, ◌<ℤ◌, refl, sym, ap, ◌∙◌, arith}
+use Rattle.std.proofs.Common.{◌≡◌, inl, inr, [], ◌∷◌, ℤ, pos, negsuc, ◌-ℤ◌, ◌*ℤ◌, ◌≤ℤ◌, ◌<ℤ◌, refl, arith}
 use Rattle.grid_exact.specs.Geometry.{Place, area_of, CommonPoint}
 use Rattle.grid_exact.specs.Spans.{SameSign}
 use Rattle.grid_exact.specs.Spans.SameSign.{BothAbove, BothBelow}
 use Rattle.grid_exact.proofs.WholeLaws.{sums}
 use Rattle.grid_exact.proofs.Signs.{Negative, Zero, Positive, sign_of, at_most_or_above, times_nonnegative, times_positive, times_negative, nonnegative_times_nonpositive, zero_from_times}
-use Rattle.grid_exact.proofs.Polynomial.{Whole, ◌⊕◌, ◌⊖◌, ◌⊗◌, ◌≈◌, ◌times◌, Variable, by_identity, by_multiples}
+use Rattle.grid_exact.proofs.Polynomial.{Whole, ◌⊖◌, ◌⊗◌, ◌≈◌, ◌times◌, Variable, by_identity, by_multiples}
 use Rattle.grid_exact.proofs.Spots.{spot, numbers_of, area_in, turn_in}
 use Rattle.grid_exact.proofs.Commons.{common_swapped}
 use Rattle.grid_exact.proofs.Areas.{turn_of, area_abc, area_abd, area_cda, areas_differ, common_right, common_left}
