@@ -6,7 +6,7 @@ use Rattle.grid_exact.specs.Geometry.{Place, CommonPoint}
 use Rattle.grid_exact.proofs.WholeLaws.{sums}
 use Rattle.grid_exact.proofs.Signs.{at_most_or_above, times_nonnegative}
 use Rattle.grid_exact.proofs.Polynomial.{Whole, ◌⊕◌, ◌⊖◌, ◌⊗◌, ◌≈◌, Variable, by_identity}
-use Rattle.segment_tests.specs.Meeting.{AreBelow, AreRangesApart}
+use Rattle.segment_tests.specs.Meeting.{AreBelow, AreRangesApart, AreBoxesApart}
 
 -- ---- the test
 
@@ -56,8 +56,12 @@ axis_apart : (n s t a b c d : ℤ) → pos 1 ≤ℤ n → pos 0 ≤ℤ s → s �
 axis_apart n s t a b c d one sl sh tl th (inl h) same = below_apart n s t a b c d one sl sh tl th h.first_first h.first_second h.second_first h.second_second same
 axis_apart n s t a b c d one sl sh tl th (inr h) same = below_apart n t s c d a b one tl th sl sh h.first_first h.first_second h.second_first h.second_second (sym same)
 
-pub x_ranges_apart : (a b c d : Place) → AreRangesApart a.x b.x c.x d.x → ¬ (CommonPoint a b c d)
+x_ranges_apart : (a b c d : Place) → AreRangesApart a.x b.x c.x d.x → ¬ (CommonPoint a b c d)
 x_ranges_apart a b c d apart h = axis_apart h.denominator h.first h.second a.x b.x c.x d.x h.whole h.first_low h.first_high h.second_low h.second_high apart h.across
 
-pub y_ranges_apart : (a b c d : Place) → AreRangesApart a.y b.y c.y d.y → ¬ (CommonPoint a b c d)
+y_ranges_apart : (a b c d : Place) → AreRangesApart a.y b.y c.y d.y → ¬ (CommonPoint a b c d)
 y_ranges_apart a b c d apart h = axis_apart h.denominator h.first h.second a.y b.y c.y d.y h.whole h.first_low h.first_high h.second_low h.second_high apart h.up
+
+pub boxes_apart : (a b c d : Place) → AreBoxesApart a b c d → ¬ (CommonPoint a b c d)
+boxes_apart a b c d (inl apart) = y_ranges_apart a b c d apart
+boxes_apart a b c d (inr apart) = x_ranges_apart a b c d apart
