@@ -2,7 +2,7 @@
 --
 -- `above_next`, `next_below`, `above_start` and those behind it serve the loop that finds a root, and `greatest_root` says that it found
 -- one. `within_root` turns a comparison of squares into one of numbers: use it where a test goes by a threshold.
-use Rattle.std.proofs.Common.{◌≡◌, ◌↔◌, ℕ, ◌+◌, ◌*◌, ◌/◌, ◌%◌, ◌^◌, ◌<◌, ◌≤◌, ◌-◌, zero, suc, ◌⊎◌, inl, inr, arith, ℤ, pos, negsuc, ◌+ℤ◌, ◌-ℤ◌, ◌*ℤ◌, neg_ℤ, ◌≤ℤ◌, ◌<ℤ◌, refl, sym}
+use Rattle.std.proofs.Common.{◌≡◌, ◌↔◌, ℕ, ◌+◌, ◌*◌, ◌/◌, ◌%◌, ◌^◌, ◌<◌, ◌≤◌, ◌-◌, zero, suc, inl, inr, arith, ℤ, pos, negsuc, ◌+ℤ◌, ◌-ℤ◌, ◌*ℤ◌, neg_ℤ, ◌≤ℤ◌, refl}
 use Rattle.std.proofs.lemmas.Int.{ints}
 use Rattle.std.proofs.Math.Nat.{div-mul-le_self, div-le_of_le-mul}
 use Rattle.std.proofs.lemmas.Nat.{mul-le, pow-add, shl_whole}
@@ -11,7 +11,7 @@ use Rattle.std.proofs.Math.Pow.{pow_mono}
 use Rattle.grid_exact.specs.Geometry.{square_of}
 use Rattle.grid_exact.specs.Near.{IsGreatestRoot}
 use Rattle.grid_exact.proofs.WholeLaws.{sums}
-use Rattle.grid_exact.proofs.Signs.{at_most_or_above, times_nonnegative}
+use Rattle.grid_exact.proofs.Signs.{times_nonnegative}
 use Rattle.grid_exact.proofs.Polynomial.{Whole, ◌⊕◌, ◌⊖◌, ◌⊗◌, ◌≈◌, identity_1, identity_2}
 
 -- ---- finding a root

@@ -1,4 +1,5 @@
-use Rattle.std.proofs.Common.{◌≡◌, ◌+◌, ◌*◌, ◌^◌, ◌/◌, ◌%◌, ◌<◌, ◌≤◌, arith}
+-- The start is above the root, and small enough to be squared.
+use Rattle.std.proofs.Common.{◌*◌, ◌^◌, ◌/◌, ◌≤◌, arith}
 use Rattle.std.proofs.Math.Nat.{one-le-pow}
 use Rattle.std.proofs.Math.Pow.{pow_mono}
 use Rattle.grid_exact.proofs.SquareRoots.{above_start, half_low, quotient_low, doubled}

@@ -1,4 +1,5 @@
-use Rattle.std.proofs.Common.{◌≡◌, ◌+◌, ◌*◌, ◌^◌, ◌/◌, ◌<◌, ◌≤◌, arith}
+-- Newton's step keeps the number above the root, and falls.
+use Rattle.std.proofs.Common.{arith}
 use Rattle.grid_exact.proofs.SquareRoots.{above_next, next_below}
 use Rattle.grid_exact.proofs.roots.root_of.Goals as goal
 

@@ -1,3 +1,4 @@
+-- The number is not below the root, and it falls.
 use Rattle.std.proofs.Common.{◌+◌, ◌*◌, ◌^◌, ◌<◌, ◌≤◌}
 use Rattle.grid_exact.proofs.roots.root_of.Given as goal
 
