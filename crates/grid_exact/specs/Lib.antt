@@ -1,3 +1,13 @@
+pub mod Segments
+pub mod Walks
+pub mod Crossing
+pub mod Spans
+pub mod Clash
+pub mod Views
+pub mod Laws
 pub mod Geometry
 pub mod Frame
 pub mod Paths
+pub mod Near
+pub mod NearLaws
+pub mod Weights
