@@ -41,6 +41,7 @@ found_below words i from end next after order on none = record {
   none = λ j later earlier. none j later (omega arith);
 }
 
+-- the lowest set bit of the word is the next one of the row, unless the end comes before it
 pub next_found : (words : List ℕ) (i from end at word : ℕ) → from ≤ end → word < 2 ^ 64 → (word ≡ 0 → end ≤ 64 * (at + 1)) → IsWordFrom words i from at word → NoneSet words i from (64 * at) → IsNextBit words i from end (min end (64 * at + trailing_zeros w64 word))
 next_found words i from end at word order fits last here passed = elim (cases_lt 0 word) [
   | inl some ↦
@@ -78,7 +79,7 @@ word_more words i from at word zero_word here passed =
 pub whole_word : (words : List ℕ) (i from at : ℕ) → from ≤ 64 * at → IsWordFrom words i from at (slice_index words (16 * i + at))
 whole_word words i from at past = record { before = λ n small early. absurd (omega arith); behind = λ n small late. refl }
 
--- `word & (MAX << k)` has the bits of the word from k on
+-- `word & (MAX << k)` has no bit before k
 pub mask_before : (word k n : ℕ) → k < 64 → n < k → bit_at (bit_and word ((2 ^ 64 - 1) * 2 ^ k % 2 ^ 64)) n ≡ 0
 mask_before word k n within early =
     bit_at_and word ((2 ^ 64 - 1) * 2 ^ k % 2 ^ 64) n
@@ -86,6 +87,7 @@ mask_before word k n within early =
     ∙ ap (λ (bit : ℕ). min (bit_at word n) bit) (bit_at_mask_below k 64 n early)
     ∙ let none : min (bit_at word n) 0 ≡ 0 = omega arith in none
 
+-- and from k on those of the word
 pub mask_behind : (word k n : ℕ) → k < 64 → k ≤ n → n < 64 → bit_at (bit_and word ((2 ^ 64 - 1) * 2 ^ k % 2 ^ 64)) n ≡ bit_at word n
 mask_behind word k n within late small =
     bit_at_and word ((2 ^ 64 - 1) * 2 ^ k % 2 ^ 64) n
