@@ -1,6 +1,6 @@
 -- A limit that cannot be reached makes no difference to the machine.
-use Rattle.std.proofs.Common.{◌≡◌, ℕ, ◌+◌, ◌<◌, ◌≤◌, Bool, true, false, cond, eqb, ltb, List, [], ◌∷◌, length, drop, Option, Some, None, refl, sym, ap, ◌∙◌, arith, drop_of_length-le}
-use Rattle.std.proofs.lemmas.Bool.{cond-true, lt-ltb}
+use Rattle.std.proofs.Common.{◌≡◌, ℕ, ◌+◌, ◌<◌, ◌≤◌, Bool, true, false, cond, eqb, ltb, List, [], ◌∷◌, length, drop, Option, Some, None, refl, sym, ap, ◌∙◌, arith, inl, inr}
+use Rattle.std.proofs.lemmas.Bool.{cond-true, lt-ltb, cases_lt}
 use Rattle.json_scan.specs.declared.node.Kind.TheVariants as kind
 use Rattle.json_scan.specs.declared.node.Holder.{Holder}
 use Rattle.json_scan.specs.declared.node.Holder.TheVariants as holder
@@ -12,6 +12,7 @@ use Rattle.json_scan.specs.declared.walk.Expect.TheVariants as expect
 use Rattle.json_scan.specs.Bytes.{is_white}
 use Rattle.json_scan.specs.Machine.{Next, Expecting, InNumber, InText, InWord, State, state, with_leaf, number_step, may_end, open_step, close_step, value_step, token_step, expecting_step, next_step, step, run, Outcome, Whole, Broken, go_on, next_end, after_end}
 use Rattle.json_scan.specs.Machine as machine
+use Rattle.json_scan.proofs.Runs.{run-end}
 use Rattle.json_scan.proofs.Leaves.{run-cons}
 use Rattle.json_scan.proofs.Viable.{step-keeps, same_place, end-broken}
 
@@ -111,5 +112,8 @@ end-whole_closed (InText here x start) opened nodes p ns e = absurd cc
 
 -- a run to the end of a text, from a state in which one is open, begins in the text
 pub whole-within : (limit : ℕ) (text : List ℕ) (s : State) (ns : List Node) → run limit s (drop s.place text) ≡ Whole ns → 0 < length s.opened → s.place < length text
-unfolding run
-whole-within limit text s ns e some = ?
+whole-within limit text s ns e some =
+    elim (cases_lt s.place (length text)) [
+      | inl lt ↦ lt
+      | inr le ↦ let none = end-whole_closed s.next s.opened s.nodes s.place ns (sym (run-end limit s text le) ∙ e) in absurd (omega (arith, some, none))
+    ]
