@@ -4,7 +4,9 @@ use Rattle.std.specs.Str.{IsUtf8}
 use Rattle.json_scan.specs.declared.node.Node.{Node}
 use Rattle.json_scan.specs.Machine.{Outcome, Whole, Broken, run, before_value, text_start}
 use Rattle.json_scan.specs.Grammar.{Document, IsDocument, IsJson, value_depth, document_text, document_nodes}
-use Rattle.json_scan.specs.Places.{IsLongestViable, IsDeepBracket}
+use Rattle.json_scan.specs.Places.{IsLongestViable, IsDeepBracket, IsRefusedFor}
+use Rattle.json_scan.specs.Scans.{HasNodes}
+use Rattle.json_scan.specs.declared.walk.ScanError.{ScanError}
 
 -- what comes of a text where no more than a limit may be open
 abbrev pub outcome_of : ℕ → List ℕ → Outcome
@@ -26,6 +28,14 @@ StopsBehindLongest = (least : ℕ) (text : List ℕ) (at : ℕ) → IsUtf8 text 
 abbrev pub HasLongest : Type 0
 HasLongest = (text : List ℕ) → IsUtf8 text → (n : ℕ) × IsLongestViable text n
 
+abbrev pub LongestIsUnique : Type 0
+LongestIsUnique = (text : List ℕ) (n m : ℕ) → IsLongestViable text n → IsLongestViable text m → n ≡ m
+
 -- the first bracket of depth 65 in that prefix is where the machine stops if no more than 64 may be open
 abbrev pub StopsAtDeepBracket : Type 0
 StopsAtDeepBracket = (text : List ℕ) (n at : ℕ) → IsLongestViable text n → IsDeepBracket text n at ↔ ((at < n) × (outcome_of 64 text ≡ Broken at))
+
+-- a text is refused in one way at most, and in none if it has nodes
+abbrev pub RefusalsExclude : Type 0
+RefusalsExclude =
+    (text : List ℕ) (e : ScanError) → IsRefusedFor text e → ((f : ScanError) → IsRefusedFor text f → f ≡ e) × ((nodes : List Node) → ¬ (HasNodes text nodes))
