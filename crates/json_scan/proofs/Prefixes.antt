@@ -197,25 +197,27 @@ stops-longest least text at u broken = record {
   longest = λ m w. elim (cases_lt at m) [ inl lt ↦ absurd (no_longer least text at m broken w lt) | inr le ↦ le ];
 }
 
+-- a JSON text is viable to its end
+pub json-viable : (text : List ℕ) (d : Document) → IsUtf8 text → IsDocument d → text ≡ document_text d → IsViable text (length text)
+json-viable text d u is spelled =
+    let all : take (length text) text ≡ text = take_all (length text) text (omega arith) in
+    record {
+      within = omega arith;
+      whole = subst IsUtf8 (sym all) u;
+      document = d;
+      begins = record {
+        is_document = is;
+        utf8 = subst IsUtf8 spelled u;
+        rest = [];
+        spelled = sym spelled ∙ sym all ∙ sym (append-nil (take (length text) text));
+      };
+    }
+
 -- of a JSON text the longest viable prefix is all of it
 whole-longest : (limit : ℕ) (text : List ℕ) (nodes : List Node) → IsUtf8 text → outcome_of limit text ≡ Whole nodes → IsLongestViable text (length text)
 whole-longest limit text nodes u ran =
     let found = document-found limit text nodes ran in
-    let all : take (length text) text ≡ text = take_all (length text) text (omega arith) in
-    record {
-      viable = record {
-        within = omega arith;
-        whole = subst IsUtf8 (sym all) u;
-        document = found.0;
-        begins = record {
-          is_document = found.1.document;
-          utf8 = subst IsUtf8 found.1.spelled u;
-          rest = [];
-          spelled = sym found.1.spelled ∙ sym all ∙ sym (append-nil (take (length text) text));
-        };
-      };
-      longest = λ m w. w.within;
-    }
+    record { viable = json-viable text found.0 u found.1.document found.1.spelled; longest = λ m w. w.within }
 
 -- no more can be open than there are bytes
 abbrev pub deepest : List ℕ → ℕ

@@ -1,6 +1,7 @@
 -- The first List or Object that is too deep is where the machine with a limit breaks.
 use Rattle.std.proofs.Common.{◌≡◌, ℕ, zero, suc, ◌+◌, ◌-◌, ◌<◌, ◌≤◌, ◌⊎◌, max, inl, inr, Bool, true, false, cond, ltb, List, [], ◌∷◌, ◌++◌, length, drop, Option, Some, None, refl, sym, ap, ◌∙◌, arith}
 use Rattle.std.proofs.lemmas.Bool.{cond-false, le-ltb}
+use Rattle.std.proofs.lemmas.List.{length-append}
 use Rattle.json_scan.specs.declared.node.Kind.TheVariants as kind
 use Rattle.json_scan.specs.declared.node.Holder.{Holder}
 use Rattle.json_scan.specs.declared.node.Holder.TheVariants as holder
@@ -13,6 +14,7 @@ use Rattle.json_scan.specs.Grammar.{Value, Null, False, True, Number, Text, Empt
 use Rattle.json_scan.specs.Places.{value_brackets, items_brackets, members_brackets, brackets_of_depth}
 use Rattle.json_scan.proofs.Leaves.{gap-runs, Stops}
 use Rattle.json_scan.proofs.Accepted.{Stops-gap, Stops-comma, open_at, opened_node, opener_of, opens, further, TakesValue, first-takes, value-takes, as-value, TakesName, first-takes_name, next-takes_name, name-runs, colon-runs, value-runs}
+use Rattle.json_scan.proofs.Widths.{value-width, items-width, members-width, quoted-width}
 use Rattle.json_scan.proofs.Documents.{value-no_mark}
 
 -- ---- lists in two parts
@@ -69,6 +71,70 @@ mutual
       let first = value-shallow v holders at_value two.0 in
       let rest = members-shallow members holders (at_value + value_width v + length after + 1) two.1 in
       omega (arith, first, rest)
+
+-- ---- brackets stand inside the value
+
+mutual
+  value-inside : (v : Value) (holders p at : ℕ) (others : List ℕ) → value_brackets v holders p ≡ at ∷ others → at < p + value_width v
+  value-inside Null holders p at others e = none-first at others e
+  value-inside False holders p at others e = none-first at others e
+  value-inside True holders p at others e = none-first at others e
+  value-inside (Number n) holders p at others e = none-first at others e
+  value-inside (Text ps) holders p at others e = none-first at others e
+  value-inside (EmptyList gap) zero p at others e = let same = only-first p at others e in omega (arith, same)
+  value-inside (EmptyList gap) (suc holders) p at others e = none-first at others e
+  value-inside (FullList items) zero p at others e = let same = only-first p at others e in omega (arith, same)
+  value-inside (FullList items) (suc holders) p at others e = let inner = items-inside items holders (p + 1) at others e in omega (arith, inner, items-width items (93 ∷ []))
+  value-inside (EmptyObject gap) zero p at others e = let same = only-first p at others e in omega (arith, same)
+  value-inside (EmptyObject gap) (suc holders) p at others e = none-first at others e
+  value-inside (FullObject members) zero p at others e = let same = only-first p at others e in omega (arith, same)
+  value-inside (FullObject members) (suc holders) p at others e = let inner = members-inside members holders (p + 1) at others e in omega (arith, inner, members-width members (125 ∷ []))
+
+  items-inside : (items : Items) (holders p at : ℕ) (others : List ℕ) → items_brackets items holders p ≡ at ∷ others → at < p + length (items_then items [])
+  items-inside (LastItem before v after) holders p at others e =
+      let first = value-inside v holders (p + length before) at others e in
+      omega (arith, first, length-append before (value_then v (after ++ [])), value-width v (after ++ []))
+  items-inside (NextItem before v after items) holders p at others e =
+      let rest : List ℕ = 44 ∷ items_then items [] in
+      elim (first-of_two (value_brackets v holders (p + length before)) _ at others e) [
+        | inl (rest_of, here) ↦
+            let first = value-inside v holders (p + length before) at rest_of here in
+            omega (arith, first, length-append before (value_then v (after ++ rest)), value-width v (after ++ rest))
+        | inr (none, later) ↦
+            let inner = items-inside items holders (p + length before + value_width v + length after + 1) at others later in
+            omega (arith, inner, length-append before (value_then v (after ++ rest)), value-width v (after ++ rest), length-append after rest)
+      ]
+
+  members-inside : (members : Members) (holders p at : ℕ) (others : List ℕ) → members_brackets members holders p ≡ at ∷ others → at < p + length (members_then members [])
+  members-inside (LastMember before name behind ahead v after) holders p at others e =
+      let tail : List ℕ = ahead ++ value_then v (after ++ []) in
+      let first = value-inside v holders (p + length before + quoted_width name + length behind + 1 + length ahead) at others e in
+      omega (
+        arith,
+        first,
+        length-append before (quoted_then name (behind ++ (58 ∷ tail))),
+        quoted-width name (behind ++ (58 ∷ tail)),
+        length-append behind (58 ∷ tail),
+        length-append ahead (value_then v (after ++ [])),
+        value-width v (after ++ []),
+      )
+  members-inside (NextMember before name behind ahead v after members) holders p at others e =
+      let rest : List ℕ = 44 ∷ members_then members [] in
+      let tail : List ℕ = ahead ++ value_then v (after ++ rest) in
+      let at_value : ℕ = p + length before + quoted_width name + length behind + 1 + length ahead in
+      let widths : length (before ++ quoted_then name (behind ++ (58 ∷ tail))) ≡ length before + quoted_width name + length behind + 1 + length ahead + value_width v + length (after ++ rest) =
+      omega (
+        arith,
+        length-append before (quoted_then name (behind ++ (58 ∷ tail))),
+        quoted-width name (behind ++ (58 ∷ tail)),
+        length-append behind (58 ∷ tail),
+        length-append ahead (value_then v (after ++ rest)),
+        value-width v (after ++ rest),
+      ) in
+      elim (first-of_two (value_brackets v holders at_value) _ at others e) [
+        | inl (rest_of, here) ↦ let first = value-inside v holders at_value at rest_of here in omega (arith, first, widths)
+        | inr (none, later) ↦ let inner = members-inside members holders (at_value + value_width v + length after + 1) at others later in omega (arith, inner, widths, length-append after rest)
+      ]
 
 -- ---- a bracket where as many are open as may be
 
@@ -186,3 +252,18 @@ document-breaks d at others fits e = with_mark d.mark e
 
 pub document-shallow : (d : Document) → brackets_of_depth 65 d ≡ [] → value_depth d.value ≤ 64
 document-shallow d e = value-shallow d.value 64 (cond d.mark 3 0 + length d.before) e
+
+pub document-inside : (d : Document) (at : ℕ) (others : List ℕ) → brackets_of_depth 65 d ≡ at ∷ others → at < length (document_text d)
+document-inside d at others e = with_mark d.mark e
+  where
+    inner : List ℕ
+    inner = d.before ++ value_then d.value d.after
+
+    from : (p : ℕ) → value_brackets d.value 64 (p + length d.before) ≡ at ∷ others → at < p + length inner
+    from p e =
+        let first = value-inside d.value 64 (p + length d.before) at others e in
+        omega (arith, first, length-append d.before (value_then d.value d.after), value-width d.value d.after)
+
+    with_mark : (mark : Bool) → value_brackets d.value 64 (cond mark 3 0 + length d.before) ≡ at ∷ others → at < length (mark_then mark inner)
+    with_mark true e = let inside = from 3 e in omega (arith, inside)
+    with_mark false e = let inside = from 0 e in omega (arith, inside)

@@ -1,5 +1,5 @@
 -- The laws of the machine: each JSON text runs through it to its end, and where it stops is the longest prefix that some JSON text begins with.
-use Rattle.std.specs.Prelude.{◌≡◌, ℕ, ◌<◌, ◌≤◌, ◌↔◌, List, drop}
+use Rattle.std.specs.Prelude.{◌≡◌, ℕ, ◌<◌, ◌≤◌, ◌↔◌, ◌⊎◌, List, drop}
 use Rattle.std.specs.Str.{IsUtf8}
 use Rattle.json_scan.specs.declared.node.Node.{Node}
 use Rattle.json_scan.specs.Machine.{Outcome, Whole, Broken, run, before_value, text_start}
@@ -34,6 +34,10 @@ LongestIsUnique = (text : List ℕ) (n m : ℕ) → IsLongestViable text n → I
 -- the first bracket of depth 65 in that prefix is where the machine stops if no more than 64 may be open
 abbrev pub StopsAtDeepBracket : Type 0
 StopsAtDeepBracket = (text : List ℕ) (n at : ℕ) → IsLongestViable text n → IsDeepBracket text n at ↔ ((at < n) × (outcome_of 64 text ≡ Broken at))
+
+-- each text has nodes or is refused
+abbrev pub HasAnswer : Type 0
+HasAnswer = (text : List ℕ) → ((nodes : List Node) × HasNodes text nodes) ⊎ ((e : ScanError) × IsRefusedFor text e)
 
 -- a text is refused in one way at most, and in none if it has nodes
 abbrev pub RefusalsExclude : Type 0

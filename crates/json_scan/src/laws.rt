@@ -1,6 +1,6 @@
 //! Laws of the grammar and of the machine that reads it. Each is the contract of a function that does nothing.
 
-ghost use Rattle.json_scan.specs.Stops.{EachDocumentRuns, EachRunIsDocument, StopsBehindLongest, HasLongest, LongestIsUnique, StopsAtDeepBracket, RefusalsExclude};
+ghost use Rattle.json_scan.specs.Stops.{EachDocumentRuns, EachRunIsDocument, StopsBehindLongest, HasLongest, LongestIsUnique, StopsAtDeepBracket, HasAnswer, RefusalsExclude};
 
 /// Each JSON text runs through the machine to its end and leaves its nodes, and what runs to its end is a JSON text.
 pub fn documents_run()
@@ -23,8 +23,9 @@ pub fn stops_at_deep_bracket()
 {
 }
 
-/// No text is refused in two ways, and none that has nodes is refused.
-pub fn refusals_exclude_one_another()
-    ensures { RefusalsExclude }
+/// Each text either has nodes or is refused, and in one way only.
+pub fn each_text_has_one_answer()
+    ensures one { HasAnswer }
+    ensures only { RefusalsExclude }
 {
 }
