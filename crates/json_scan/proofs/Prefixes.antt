@@ -1,13 +1,13 @@
 -- Where the machine stops is the longest viable prefix of the text, and the first bracket in it that is too deep.
-use Rattle.std.proofs.Common.{◌≡◌, ℕ, zero, suc, ◌+◌, ◌<◌, ◌≤◌, ◌↔◌, max, inl, inr, Bool, true, false, cond, eqb, List, [], ◌∷◌, ◌++◌, length, get_or, take, drop, refl, sym, ap, subst, ◌∙◌, arith, lit<, length-drop, length-take, length-append, take-append-drop, take_all, take_at, append-nil, IsAscii, IsCharBoundary}
+use Rattle.std.proofs.Common.{◌≡◌, ℕ, zero, suc, ◌+◌, ◌<◌, ◌≤◌, max, inl, inr, Bool, true, false, cond, List, [], ◌∷◌, ◌++◌, length, get_or, take, drop, refl, sym, ap, subst, ◌∙◌, arith, lit<, length-drop, length-take, length-append, take-append-drop, take_all, take_at, append-nil, IsCharBoundary}
 use Rattle.std.specs.Str.{IsUtf8, is_utf8, chars}
-use Rattle.std.proofs.lemmas.Bool.{cases_lt, cases_Bool, eqb-true}
+use Rattle.std.proofs.lemmas.Bool.{cases_lt, cases_Bool}
 use lib.Utf8.{encode}
 use Rattle.std.proofs.lemmas.Str.{is_utf8-from_IsUtf8, IsUtf8-from_is_utf8, IsUtf8-append, IsUtf8-take, IsUtf8-past_char, IsUtf8-from_ascii, IsCharBoundary-start, IsCharBoundary-after_ascii}
 use Rattle.json_scan.specs.declared.node.Node.{Node}
 use Rattle.json_scan.specs.Machine.{State, before_value, run, Outcome, Whole, Broken, has_mark, text_start}
 use Rattle.json_scan.specs.Walks.{IsTooDeep}
-use Rattle.json_scan.specs.Grammar.{Value, Document, IsDocument, IsGap, IsValue, IsJson, value_then, value_depth, mark_then, document_text, document_nodes}
+use Rattle.json_scan.specs.Grammar.{Value, Document, IsDocument, IsGap, IsValue, value_then, value_depth, mark_then, document_text, document_nodes}
 use Rattle.json_scan.specs.Places.{BeginsWith, IsViable, IsLongestViable, IsDeepBracket, brackets_of_depth}
 use Rattle.json_scan.specs.Stops.{outcome_of}
 use Rattle.json_scan.proofs.Completed.{completes}
@@ -236,7 +236,7 @@ longest-found text u = go (outcome_of (deepest text) text) refl
     go (Broken n) e = (
       n,
       stops-longest (deepest text) text n u
-      (λ limit le. run-same_limits limit (deepest text) (drop (text_start text) text) (before_value (text_start text)) (omega (arith, le, length-drop (text_start text) text)) (omega (arith, length-drop (text_start text) text)) ∙ e),
+          (λ limit le. run-same_limits limit (deepest text) (drop (text_start text) text) (before_value (text_start text)) (omega (arith, le, length-drop (text_start text) text)) (omega (arith, length-drop (text_start text) text)) ∙ e),
       Inside e,
     )
 

@@ -1,5 +1,5 @@
 -- Why a text is refused, in words of the grammar; and the answers exclude one another.
-use Rattle.std.proofs.Common.{◌≡◌, ℕ, ◌<◌, ◌≤◌, ◌⊎◌, max, inl, inr, zero, suc, Bool, true, false, true≢false, List, [], ◌∷◌, length, take, take_all, Result, Ok, Err, refl, sym, ap, subst, ◌∙◌, arith}
+use Rattle.std.proofs.Common.{◌≡◌, ℕ, ◌<◌, ◌≤◌, ◌⊎◌, max, inl, inr, zero, suc, true, false, true≢false, List, [], ◌∷◌, length, take, take_all, Result, Ok, Err, refl, sym, ap, subst, ◌∙◌, arith}
 use Rattle.std.proofs.lemmas.Bool.{cases_lt, cases_Bool}
 use Rattle.std.specs.Prelude.{IfOk, IfErr}
 use Rattle.std.specs.Str.{IsUtf8, IsValidUpTo, is_utf8}
@@ -94,9 +94,9 @@ longest_text text (suc m) = go (longest_text text m) (cases_Bool (is_utf8 (take 
       omega (arith, le),
       front,
       λ k above within u. elim (cases_lt m k) [
-          | inl top ↦ let same : k ≡ suc m = omega arith in true≢false (sym (is_utf8-from_IsUtf8 (take (suc m) text) (subst (λ (i : ℕ). IsUtf8 (take i text)) same u)) ∙ cut)
-          | inr low ↦ longest k above low u
-        ],
+        | inl top ↦ let same : k ≡ suc m = omega arith in true≢false (sym (is_utf8-from_IsUtf8 (take (suc m) text) (subst (λ (i : ℕ). IsUtf8 (take i text)) same u)) ∙ cut)
+        | inr low ↦ longest k above low u
+      ],
     )
 
 no_text-answered : (text : List ℕ) → ¬ (IsUtf8 text) → (e : ScanError) × IsRefusedFor text e

@@ -1,5 +1,5 @@
 -- The first List or Object that is too deep is where the machine with a limit breaks.
-use Rattle.std.proofs.Common.{◌≡◌, ℕ, zero, suc, ◌+◌, ◌-◌, ◌<◌, ◌≤◌, ◌⊎◌, max, inl, inr, Bool, true, false, cond, ltb, List, [], ◌∷◌, ◌++◌, length, drop, Option, Some, None, refl, sym, ap, ◌∙◌, arith}
+use Rattle.std.proofs.Common.{◌≡◌, ℕ, zero, suc, ◌+◌, ◌<◌, ◌≤◌, ◌⊎◌, inl, inr, Bool, true, false, cond, ltb, List, [], ◌∷◌, ◌++◌, length, drop, refl, ap, ◌∙◌, arith}
 use Rattle.std.proofs.lemmas.Bool.{cond-false, le-ltb}
 use Rattle.std.proofs.lemmas.List.{length-append}
 use Rattle.json_scan.specs.declared.node.Kind.TheVariants as kind
@@ -9,10 +9,10 @@ use Rattle.json_scan.specs.declared.node.Open.{Open}
 use Rattle.json_scan.specs.declared.node.Node.{Node}
 use Rattle.json_scan.specs.declared.walk.Expect.{Expect}
 use Rattle.json_scan.specs.declared.walk.Expect.TheVariants as expect
-use Rattle.json_scan.specs.Machine.{Expecting, State, state, first_of, with_leaf, open_step, value_step, token_step, expecting_step, next_step, step, run, before_value, text_start, Whole, Broken, go_on}
-use Rattle.json_scan.specs.Grammar.{Value, Null, False, True, Number, Text, EmptyList, FullList, EmptyObject, FullObject, Items, LastItem, NextItem, Members, LastMember, NextMember, quoted_then, value_then, items_then, members_then, IsGap, IsValue, AreItems, AreMembers, value_depth, items_depth, members_depth, value_width, quoted_width, value_nodes, Document, IsDocument, mark_then, document_text}
+use Rattle.json_scan.specs.Machine.{Expecting, state, with_leaf, open_step, value_step, token_step, expecting_step, next_step, step, run, before_value, text_start, Broken, go_on}
+use Rattle.json_scan.specs.Grammar.{Value, Null, False, True, Number, Text, EmptyList, FullList, EmptyObject, FullObject, Items, LastItem, NextItem, Members, LastMember, NextMember, quoted_then, value_then, items_then, members_then, IsValue, AreItems, AreMembers, value_depth, items_depth, members_depth, value_width, quoted_width, value_nodes, Document, IsDocument, mark_then, document_text}
 use Rattle.json_scan.specs.Places.{value_brackets, items_brackets, members_brackets, brackets_of_depth}
-use Rattle.json_scan.proofs.Leaves.{gap-runs, Stops}
+use Rattle.json_scan.proofs.Leaves.{gap-runs}
 use Rattle.json_scan.proofs.Accepted.{Stops-gap, Stops-comma, open_at, opened_node, opener_of, opens, further, TakesValue, first-takes, value-takes, as-value, TakesName, first-takes_name, next-takes_name, name-runs, colon-runs, value-runs}
 use Rattle.json_scan.proofs.Widths.{value-width, items-width, members-width, quoted-width}
 use Rattle.json_scan.proofs.Documents.{value-no_mark}

@@ -6,26 +6,22 @@ ghost use Rattle.json_scan.specs.Stops.{EachDocumentRuns, EachRunIsDocument, Sto
 pub fn documents_run()
     ensures each { EachDocumentRuns }
     ensures only { EachRunIsDocument }
-{
-}
+{}
 
 /// Each text has one longest prefix that some JSON text begins with, and the machine stops behind it.
 pub fn stops_behind_longest_prefix()
     ensures place { StopsBehindLongest }
     ensures exists { HasLongest }
     ensures unique { LongestIsUnique }
-{
-}
+{}
 
 /// The first bracket of depth 65 in that prefix is where the machine stops if no more than 64 may be open.
 pub fn stops_at_deep_bracket()
     ensures { StopsAtDeepBracket }
-{
-}
+{}
 
 /// Each text either has nodes or is refused, and in one way only.
 pub fn each_text_has_one_answer()
     ensures one { HasAnswer }
     ensures only { RefusalsExclude }
-{
-}
+{}
