@@ -1,5 +1,4 @@
--- Segments of which one has both ends strictly on one side of the other have no common point. Of the rest, those that are
--- not on one line have just one.
+-- Segments with no common point, or with just one, by the signs of areas.
 use Rattle.std.proofs.Common.{◌≡◌, inl, inr, [], ◌∷◌, ℤ, pos, negsuc, ◌-ℤ◌, ◌*ℤ◌, ◌≤ℤ◌, ◌<ℤ◌, refl, arith}
 use Rattle.grid_exact.specs.Geometry.{Place, area_of, CommonPoint}
 use Rattle.grid_exact.specs.Spans.{SameSign}

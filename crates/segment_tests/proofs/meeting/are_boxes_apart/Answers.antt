@@ -1,3 +1,4 @@
+-- The ranges that are compared are those of the coordinates.
 use Rattle.std.proofs.Common.{◌↔◌, inl, inr, IsTrue, w64, FitsSigned, arith}
 use Rattle.std.proofs.lemmas.Int.{to_z-of_z}
 use Rattle.grid_exact.proofs.WholeLaws.{fits}

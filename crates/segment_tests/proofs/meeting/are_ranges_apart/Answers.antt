@@ -1,3 +1,4 @@
+-- One range is below the other, or above it.
 use Rattle.std.proofs.Common.{◌↔◌, inl, inr, IsTrue}
 use Rattle.std.proofs.lemmas.Int.{to_z-of_z}
 use Rattle.segment_tests.specs.Meeting.{AreBelow}

@@ -1,3 +1,4 @@
+-- Segments in boxes that are apart have no common point.
 use Rattle.segment_tests.proofs.Ranges.{boxes_apart}
 use Rattle.segment_tests.proofs.meeting.meeting_of.Goals as goal
 
