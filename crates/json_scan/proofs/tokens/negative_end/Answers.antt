@@ -11,9 +11,9 @@ returns-then-at-text-clause-number c =
 
 pub returns-in-Some-clause-number : goal.returns-in-Some-clause-number
 returns-in-Some-clause-number c =
-    λ start opened nodes. ends_as c.args.text.now Minus c.in-Some.part start opened nodes c.args.at _ c.whole_end.result
+    λ start opened nodes. ends_as c.args.text.now Minus c.in-Some.part start opened nodes c.args.at _ c.number_end.result
     (number_more c.args.text.now _ Minus c.in-Some.part start opened nodes c.args.at (Continues-refl c.args.text.now (state (InNumber Minus start) opened nodes c.args.at)) (omega arith) (sym c.in-Some.ensures))
-    (c.whole_end.ensures.number start opened nodes)
+    (c.number_end.ensures.number start opened nodes)
 
 pub returns-in-None-clause-number : goal.returns-in-None-clause-number
 returns-in-None-clause-number c =
