@@ -1,3 +1,4 @@
+-- What the check leaves to show of `negative_end`.
 use Rattle.std.proofs.Common.{sym, refl, arith}
 use Rattle.json_scan.specs.declared.tokens.NumberPart.TheVariants.{Minus}
 use Rattle.json_scan.specs.Machine.{state, InNumber}

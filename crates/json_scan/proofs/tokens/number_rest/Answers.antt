@@ -1,3 +1,4 @@
+-- What the check leaves to show of `number_rest`.
 use Rattle.std.proofs.Common.{◌≡◌, ◌<◌, length, get_or, None, arith, sym, ◌∙◌}
 use Rattle.json_scan.specs.Machine.{number_step}
 use Rattle.json_scan.proofs.Runs.{Continues-then}
