@@ -1,2 +1,5 @@
 pub mod Walks
 pub mod Map
+pub mod ArcList
+pub mod Records
+pub mod FlatRecords

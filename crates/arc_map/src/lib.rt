@@ -1,6 +1,12 @@
 //! Maps as arcs, feature points and polygons; their chains, and what a run over the chains records.
 #![tactic(auto)]
 
+mod arc_list;
 mod map;
+mod records;
+mod refs;
 
+pub use arc_list::ArcList;
 pub use map::ArcMap;
+pub use records::{ChainRecord, RunRecords};
+pub use refs::{ChainRef, EdgeRef, NoMemory};
