@@ -8,3 +8,6 @@ pub mod Spans
 pub mod Clash
 pub mod Views
 pub mod Laws
+pub mod Near
+pub mod NearLaws
+pub mod Weights
