@@ -1,5 +1,12 @@
 pub mod Walks
 pub mod Map
+pub mod Vertices
+pub mod Allowed
+pub mod Clear
+pub mod Chains
+pub mod Edges
+pub mod Paths
+pub mod Arcs
 pub mod ArcList
 pub mod Records
 pub mod FlatRecords

@@ -1,7 +1,7 @@
 -- A map: its arcs, its feature points and its polygons, and what holds of each map.
 use Rattle.std.specs.Prelude.{◌≢◌, ◌^◌, ◌<◌, ◌≤◌, ℕ, Bool, List, [], ◌∷◌, length, sum_by, All}
 use Rattle.grid_exact.specs.Geometry.{Place}
-use Rattle.arc_map.specs.Walks.{EachEdge}
+use Rattle.grid_exact.specs.Walks.{EachEdge}
 
 -- a map: its arcs as lists of positions, its feature points, its polygons as lists of the numbers of the
 -- arcs that their rings name, and whether its text codes the arcs as differences

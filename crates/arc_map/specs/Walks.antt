@@ -1,13 +1,9 @@
--- Walks: a first element and those after it. An arc is a walk, and so is a chain, and a run of it.
+-- Runs of a walk: its edges, and when it runs one way. A chain is such a walk.
 use Rattle.std.specs.Prelude.{◌≡◌, ◌⊎◌, List, [], ◌∷◌}
 use Rattle.grid_exact.specs.Geometry.{Place}
 use Rattle.grid_exact.specs.Frame.{IsBeforeIn}
+use Rattle.grid_exact.specs.Walks.{EachEdge}
 use Rattle.grid_exact.specs.declared.frame.Frame.{Frame}
-
--- each edge of the walk from v along ws has the property
-abbrev pub EachEdge : {A : Type 0} → (A → A → Type 0) → A → List A → Type 0
-EachEdge P v [] = Unit {0}
-EachEdge P v (w ∷ ws) = P v w × EachEdge P w ws
 
 -- cd is an edge of the walk from v along ws
 abbrev pub IsEdgeOf : {A : Type 0} → A → List A → A → A → Type 0
