@@ -1,5 +1,5 @@
 -- A map as the list of its chains, with its feature points. Each chain is in it once, and no edge is outside it.
-use Rattle.std.specs.Prelude.{◌≡◌, ◌≢◌, ◌⊎◌, ℕ, ℤ, pos, Bool, false, List, [], get_or, slice_set, Contains}
+use Rattle.std.specs.Prelude.{◌≡◌, ◌≢◌, ◌⊎◌, ℕ, ℤ, pos, Bool, false, List, [], ◌∷◌, get_or, slice_set, Contains}
 use Rattle.grid_exact.specs.Geometry.{Place}
 use Rattle.grid_exact.specs.declared.frame.Frame.{Frame}
 use Rattle.grid_exact.specs.declared.frame.Frame.TheVariants.{Plain}
@@ -16,6 +16,10 @@ pub record Chain : Type 0 where
   pub frame : Frame
   pub first : Vertex
   pub rest : List Vertex
+
+-- the places of the vertices of a chain
+abbrev pub chain_places : Chain → List Place
+chain_places k = k.first.place ∷ places k.rest
 
 -- what stands past the end of a list of chains: it has no edge
 abbrev pub no_chain : Chain

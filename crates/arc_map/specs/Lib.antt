@@ -7,6 +7,9 @@ pub mod Chains
 pub mod Edges
 pub mod Paths
 pub mod Arcs
+pub mod Arranged
+pub mod Work
+pub mod Live
 pub mod ArcList
 pub mod Records
 pub mod FlatRecords

@@ -5,8 +5,10 @@ mod arc_list;
 mod map;
 mod records;
 mod refs;
+mod work;
 
 pub use arc_list::ArcList;
 pub use map::ArcMap;
 pub use records::{ChainRecord, RunRecords};
 pub use refs::{ChainRef, EdgeRef, NoMemory};
+pub use work::WorkMap;
