@@ -1,3 +1,4 @@
 pub mod Elements
 pub mod Flat
 pub mod Rising
+pub mod Keeping

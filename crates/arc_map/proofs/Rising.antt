@@ -1,5 +1,5 @@
 -- What a search finds in a strictly rising list.
-use Rattle.std.proofs.Common.{◌≡◌, ◌⊎◌, ◌↔◌, ◌∙◌, ℕ, ◌+◌, ◌<◌, ◌≤◌, Bool, true, false, IsTrue, List, length, get_or, Result, Ok, Err, is_ok, MatchResult, Contains, refl, inl, inr, arith}
+use Rattle.std.proofs.Common.{◌≡◌, ◌⊎◌, ◌↔◌, ◌∙◌, ℕ, zero, suc, ◌+◌, ◌-◌, ◌<◌, ◌≤◌, Bool, true, false, IsTrue, List, length, get_or, Result, Ok, Err, is_ok, MatchResult, Contains, refl, inl, inr, arith}
 use Rattle.std.specs.List.Sorted.{IsStrictlyIncreasing}
 use Rattle.std.proofs.lemmas.Bool.{cases_lt}
 use Rattle.std.proofs.lemmas.List.{get_or_default}
@@ -23,3 +23,22 @@ found-contains xs x (Err i) missed =
         inl before ↦ omega (arith, missed.1 has.0 before)
       | inr behind ↦ omega (arith, missed.2 has.0 behind has.1)
       ]))
+
+-- the place of a number in a strictly rising list is at most the number
+pub place-le-number : (xs : List ℕ) → IsStrictlyIncreasing xs → (k : ℕ) → k < length xs → k ≤ get_or xs k 0
+place-le-number xs rising zero within = omega arith
+place-le-number xs rising (suc k) within =
+    let before = place-le-number xs rising k (omega arith) in
+    let step = rising k (omega arith) in
+    let next : k + 1 ≡ suc k = omega arith in
+    omega (arith, rw next at step)
+
+-- a strictly rising list of numbers below n has at most n of them
+pub rising-length : (n : ℕ) (xs : List ℕ) → IsStrictlyIncreasing xs → ((k : ℕ) (d : ℕ) → k < length xs → get_or xs k d < n) → length xs ≤ n
+rising-length n xs rising below =
+    elim (cases_lt 0 (length xs)) [
+      inl some ↦
+        let last = place-le-number xs rising (length xs - 1) (omega arith) in
+        omega (arith, last, below (length xs - 1) 0 (omega arith))
+    | inr none ↦ omega arith
+    ]
