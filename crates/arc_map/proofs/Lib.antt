@@ -2,3 +2,4 @@ pub mod Elements
 pub mod Flat
 pub mod Rising
 pub mod Keeping
+pub mod Thinning

@@ -1,6 +1,7 @@
 -- How the chains of a map at work lie in memory: for each the numbers of its vertices in the arc as read, and
 -- their positions.
 use Rattle.std.specs.Prelude.{◌≡◌, ◌≢◌, ◌+◌, ◌-◌, ◌<◌, ◌≤◌, ◌^◌, ℕ, List, map, drop, length, slice_index, All, AllPairs}
+use Rattle.std.specs.List.{AllAdjacentBelow}
 use Rattle.std.specs.List.Sorted.{IsStrictlyIncreasing}
 use Rattle.arc_map.specs.Map.{Map}
 use Rattle.arc_map.specs.Chains.{Chain}
@@ -31,7 +32,13 @@ pub record IsLive (m : Map) (c : LiveChain) : Type 0 where
   pub lies : LiesInArc m c.place
   pub spans : SpansChain c.place c.numbers.items
   pub positions : c.vertices.items ≡ map (position_at m c.place.arc) c.numbers.items
+  pub distinct : AllPairs (λ p q. p ≢ q) c.vertices.items
+
+-- of one arc, each chain ends where the next begins
+abbrev pub AreJoined : List ChainRef → Type 0
+AreJoined refs = AllAdjacentBelow (λ r s. r.arc ≡ s.arc → r.to ≡ s.«from») refs (length refs)
 
 pub record AreLive (w : Inside) : Type 0 where
   pub few : length w.chains.items ≤ 2 ^ 20
+  pub joined : AreJoined (map (λ c. c.place) w.chains.items)
   pub chains : All (IsLive w.base) w.chains.items
