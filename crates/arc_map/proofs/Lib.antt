@@ -3,3 +3,4 @@ pub mod Flat
 pub mod Rising
 pub mod Keeping
 pub mod Thinning
+pub mod Alive
