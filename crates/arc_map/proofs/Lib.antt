@@ -4,3 +4,5 @@ pub mod Rising
 pub mod Keeping
 pub mod Thinning
 pub mod Alive
+pub mod Cutting
+pub mod Reading

@@ -1,11 +1,11 @@
 -- How the chains of a map at work lie in memory: for each the numbers of its vertices in the arc as read, and
 -- their positions.
-use Rattle.std.specs.Prelude.{◌≡◌, ◌≢◌, ◌+◌, ◌-◌, ◌<◌, ◌≤◌, ◌^◌, ℕ, List, map, drop, length, slice_index, All, AllPairs}
-use Rattle.std.specs.List.{AllAdjacentBelow}
+use Rattle.std.specs.Prelude.{◌≡◌, ◌≢◌, ◌+◌, ◌-◌, ◌<◌, ◌≤◌, ◌^◌, ℕ, List, map, drop, length, slice_index, slice_range, All, AllPairs}
+use Rattle.std.specs.List.{AllAdjacentBelow, range_with_len}
 use Rattle.std.specs.List.Sorted.{IsStrictlyIncreasing}
 use Rattle.arc_map.specs.Map.{Map}
 use Rattle.arc_map.specs.Chains.{Chain}
-use Rattle.arc_map.specs.Arranged.{position_at}
+use Rattle.arc_map.specs.Arranged.{arc_at, position_at}
 use Rattle.arc_map.specs.Work.{Work, vertex_in, LiesInArc}
 use Rattle.arc_map.specs.declared.refs.ChainRef.{ChainRef}
 use Rattle.arc_map.specs.declared.work.LiveChain.{LiveChain}
@@ -20,6 +20,12 @@ live_chain m c = numbered m c.place c.numbers.items
 
 abbrev pub work_in : Inside → Work
 work_in w = record { read = w.base; refs = map (λ c. c.place) w.chains.items; chains = map (live_chain w.base) w.chains.items }
+
+-- the chain is in memory as the map has it
+pub record IsRead (m : Map) (r : ChainRef) (c : LiveChain) : Type 0 where
+  pub place : c.place ≡ r
+  pub numbers : c.numbers.items ≡ range_with_len r.«from» (r.to + 1 - r.«from»)
+  pub vertices : c.vertices.items ≡ slice_range (arc_at m r.arc) r.«from» (r.to + 1)
 
 -- the numbers rise from the chain's first to its last
 pub record SpansChain (r : ChainRef) (numbers : List ℕ) : Type 0 where

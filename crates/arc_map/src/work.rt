@@ -1,8 +1,10 @@
 //! A map at work: its chains as they are now, each of which can be thinned in place.
-ghost use Rattle.std.specs.Prelude.{◌≡◌, ◌+◌, ◌<◌, ◌≤◌, ◌^◌, All, IfOk, length, map, slice_get, slice_index_or};
+ghost use Rattle.std.specs.Prelude.{◌≡◌, ◌+◌, ◌-◌, ◌<◌, ◌≤◌, ◌^◌, All, IfOk, length, map, slice_get, slice_index_or};
 ghost use Rattle.std.specs.List.Sorted.{IsStrictlyIncreasing};
 ghost use Rattle.arc_map.specs.Chains.{chain_at, chain_places};
-ghost use Rattle.arc_map.specs.Work.{Work, work_of, AreChainsIn, AreKeptIn, thinned_work};
+ghost use Rattle.std.specs.List.{range_with_len};
+ghost use Rattle.arc_map.specs.Live.{IsRead};
+ghost use Rattle.arc_map.specs.Work.{Work, work_of, LiesInArc, AreChainsIn, AreKeptIn, thinned_work};
 
 use crate::map::ArcMap;
 use crate::refs::{ChainRef, NoMemory};
@@ -40,6 +42,21 @@ impl Model for WorkMap {
 }
 
 impl WorkMap {
+    /// The map with its chains, of which none is thinned yet. The only error is want of memory.
+    pub fn new(alloc: Global, map: ArcMap, chains: Vec<ChainRef>) -> Result<WorkMap, NoMemory>
+        requires { AreChainsIn map chains.items }
+        ensures { IfOk result (λ work. work ≡ work_of map chains.items) }
+    {
+        let mut live = Vec::with_capacity(alloc, chains.len())?;
+        for place in &chains {
+            live.push_reserved(read_chain(alloc, &map, *place)?);
+        }
+        Ok(WorkMap {
+            base: map,
+            chains: live,
+        })
+    }
+
     /// How many chains there are.
     pub fn chain_count(&self) -> u32
         ensures value { result ≡ length self.now.chains }
@@ -92,6 +109,30 @@ impl WorkMap {
         keep(&mut chain.numbers, kept);
         keep(&mut chain.vertices, kept);
     }
+}
+
+// The chain at this place of the map.
+fn read_chain(alloc: Global, map: &ArcMap, place: ChainRef) -> Result<LiveChain, NoMemory>
+    requires { LiesInArc map.now place }
+    ensures { IfOk result (IsRead map.now place) }
+{
+    let arc = map.arc(place.arc);
+    let vertices = arc[place.from as usize..place.to as usize + 1].to_vec(alloc)?;
+    let numbers = numbers_between(alloc, place.from, place.to)?;
+    Ok(LiveChain {
+        place,
+        numbers,
+        vertices,
+    })
+}
+
+// The numbers from the first to the last, both of them.
+fn numbers_between(alloc: Global, first: u32, last: u32) -> Result<Vec<u32>, AllocError>
+    requires ordered { first ≤ last }
+    requires small { last < 2 ^ 20 }
+    ensures { IfOk result (λ numbers. numbers.items ≡ range_with_len first (last + 1 - first)) }
+{
+    (first..last + 1).collect(alloc)
 }
 
 // Leaves just the elements at the places `kept`, in order.
