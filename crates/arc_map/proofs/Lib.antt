@@ -6,3 +6,4 @@ pub mod Thinning
 pub mod Alive
 pub mod Cutting
 pub mod Reading
+pub mod Listing

@@ -10,6 +10,7 @@ pub mod Arcs
 pub mod Arranged
 pub mod Work
 pub mod Live
+pub mod Ends
 pub mod ArcList
 pub mod Records
 pub mod FlatRecords
