@@ -7,3 +7,4 @@ pub mod Alive
 pub mod Cutting
 pub mod Reading
 pub mod Listing
+pub mod Ending

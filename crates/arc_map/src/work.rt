@@ -1,8 +1,9 @@
 //! A map at work: its chains as they are now, each of which can be thinned in place.
-ghost use Rattle.std.specs.Prelude.{◌≡◌, ◌+◌, ◌-◌, ◌<◌, ◌≤◌, ◌^◌, All, IfOk, length, map, slice_get, slice_index_or};
+ghost use Rattle.std.specs.Prelude.{◌≡◌, ◌≢◌, ◌+◌, ◌-◌, ◌<◌, ◌≤◌, ◌^◌, All, AllPairs, IfOk, length, map, slice_get, slice_index_or};
 ghost use Rattle.std.specs.List.Sorted.{IsStrictlyIncreasing};
 ghost use Rattle.arc_map.specs.Chains.{chain_at, chain_places};
 ghost use Rattle.std.specs.List.{range_with_len};
+ghost use Rattle.arc_map.specs.Ends.{EndLists, IsEndTable};
 ghost use Rattle.arc_map.specs.Live.{IsRead};
 ghost use Rattle.arc_map.specs.Work.{Work, work_of, LiesInArc, AreChainsIn, AreKeptIn, thinned_work};
 
@@ -71,6 +72,7 @@ impl WorkMap {
         requires { k < length self.now.chains }
         ensures places { result.now ≡ chain_places (chain_at self.now.chains k) }
         ensures several { 2 ≤ length result.now }
+        ensures distinct { AllPairs (λ p q. p ≢ q) result.now }
     {
         self.chains[k as usize].vertices.as_slice()
     }
@@ -103,7 +105,9 @@ impl WorkMap {
     pub fn thin(&mut self, k: u32, kept: &[u32])
         requires chain { k < length self.old.chains }
         requires kept { AreKeptIn (chain_at self.old.chains k) kept.now }
-        ensures { self.new ≡ thinned_work self.old k kept.now }
+        ensures thinned { self.new ≡ thinned_work self.old k kept.now }
+        // A table of chain ends stays right.
+        ensures ends { (table : EndLists) → IsEndTable self.old.chains table → IsEndTable self.new.chains table }
     {
         let chain = &mut self.chains[k as usize];
         keep(&mut chain.numbers, kept);

@@ -17,3 +17,11 @@ returns-clause-places c =
     let is = of_item (IsLive m) live c.args.k x here c.index.ensures c.self.invariant.chains in
     let same = mapped-at (live_chain m) live c.args.k x no_chain here c.index.ensures in
     rw (c.as_slice.ensures.value, is.positions, ← c.self.view_is, same) (sym (numbered_places m x.place x.numbers.items (omega (arith, is.spans.several)) is.spans.first))
+
+pub returns-clause-distinct : goal.returns-clause-distinct
+returns-clause-distinct c =
+    let m = c.self.inside.base in
+    let live = c.self.inside.chains.items in
+    let within = subst (λ (w : Work). c.args.k < length w.chains) (sym c.self.view_is) c.requires in
+    let here : c.args.k < length live = omega (arith, within, length-map live (live_chain m)) in
+    rw c.as_slice.ensures.value (of_item (IsLive m) live c.args.k c.index.result.now here c.index.ensures c.self.invariant.chains).distinct
