@@ -11,6 +11,7 @@ pub mod Arranged
 pub mod Work
 pub mod Live
 pub mod Ends
+pub mod Rejoin
 pub mod ArcList
 pub mod Records
 pub mod FlatRecords

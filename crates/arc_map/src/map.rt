@@ -118,4 +118,17 @@ impl ArcMap {
     {
         self.coded
     }
+
+    // The lists of which the map is made.
+    pub(crate) fn into_parts(self) -> (Vec<Vec<Point>>, Vec<Point>, Vec<Vec<u32>>, bool)
+        ensures value { self ≡ record {
+          arcs = map (λ arc. arc.items) result.0.items;
+          points = result.1.items;
+          polygons = map (λ polygon. polygon.items) result.2.items;
+          coded = result.3;
+        } }
+        ensures is_map { IsMap self }
+    {
+        (self.arcs, self.points, self.polygons, self.coded)
+    }
 }

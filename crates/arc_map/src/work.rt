@@ -1,10 +1,11 @@
 //! A map at work: its chains as they are now, each of which can be thinned in place.
-ghost use Rattle.std.specs.Prelude.{◌≡◌, ◌≢◌, ◌+◌, ◌-◌, ◌<◌, ◌≤◌, ◌^◌, All, AllPairs, IfOk, length, map, slice_get, slice_index_or};
+ghost use Rattle.std.specs.Prelude.{◌≡◌, ◌≢◌, ◌+◌, ◌-◌, ◌<◌, ◌≤◌, ◌^◌, ◌++◌, All, AllPairs, IfOk, drop, length, map, slice_get, slice_index_or, take};
 ghost use Rattle.std.specs.List.Sorted.{IsStrictlyIncreasing};
 ghost use Rattle.arc_map.specs.Chains.{chain_at, chain_places};
 ghost use Rattle.std.specs.List.{range_with_len};
 ghost use Rattle.arc_map.specs.Ends.{EndLists, IsEndTable};
 ghost use Rattle.arc_map.specs.Live.{IsRead};
+ghost use Rattle.arc_map.specs.Rejoin.{run_of, tails, rejoined};
 ghost use Rattle.arc_map.specs.Work.{Work, work_of, LiesInArc, AreChainsIn, AreKeptIn, thinned_work};
 
 use crate::map::ArcMap;
@@ -113,6 +114,40 @@ impl WorkMap {
         keep(&mut chain.numbers, kept);
         keep(&mut chain.vertices, kept);
     }
+}
+
+// Writes the chains of the arc, of which the first is the chain number `start`, into the arc, and gives the
+// number of the first chain behind them.
+fn rejoin(arc: &mut Vec<Point>, number: u32, chains: &[LiveChain], start: usize) -> usize
+    requires known { start ≤ length chains.now }
+    requires vertices { All (λ c. 2 ≤ length c.vertices.items) chains.now }
+    requires room { 1 + length (tails (run_of number (drop start chains.now))) ≤ length arc.old.items }
+    ensures arc { arc.new.items ≡ rejoined arc.old.items (run_of number (drop start chains.now)) }
+    ensures next { result ≡ start + length (run_of number (drop start chains.now)) }
+{
+    if start == chains.len() || chains[start].place.arc != number {
+        return start;
+    }
+    arc[0] = chains[start].vertices[0];
+    let mut end = 1;
+    let mut next = start;
+    while next < chains.len() && chains[next].place.arc == number {
+        let rest = &chains[next].vertices[1..];
+        write_at(arc, end, rest);
+        end += rest.len();
+        next += 1;
+    }
+    arc.truncate(end);
+    next
+}
+
+// Writes the positions from place `end` on.
+fn write_at(arc: &mut Vec<Point>, end: usize, rest: &[Point])
+    requires { end + length rest.now ≤ length arc.old.items }
+    ensures front { take (end + length rest.now) arc.new.items ≡ take end arc.old.items ++ rest.now }
+    ensures count { length arc.new.items ≡ length arc.old.items }
+{
+    arc[end..end + rest.len()].copy_from_slice(rest);
 }
 
 // The chain at this place of the map.
