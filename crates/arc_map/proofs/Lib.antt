@@ -8,3 +8,4 @@ pub mod Cutting
 pub mod Reading
 pub mod Listing
 pub mod Ending
+pub mod Rejoining

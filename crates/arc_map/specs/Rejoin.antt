@@ -1,11 +1,12 @@
 -- How the chains of an arc in memory are joined into it.
-use Rattle.std.specs.Prelude.{ℕ, Bool, List, [], ◌∷◌, ◌++◌, nat_eq, take, take_while, drop}
+use Rattle.std.specs.Prelude.{ℕ, List, [], ◌∷◌, ◌++◌, nat_eq, if◌then◌else◌, take, drop}
 use Rattle.grid_exact.specs.Geometry.{Place}
 use Rattle.arc_map.specs.declared.work.LiveChain.{LiveChain}
 
 -- the chains at the head of the list that are of the arc
 abbrev pub run_of : ℕ → List LiveChain → List LiveChain
-run_of arc cs = take_while (λ c. nat_eq c.place.arc arc) cs
+run_of arc [] = []
+run_of arc (c ∷ cs) = if nat_eq c.place.arc arc then c ∷ run_of arc cs else []
 
 -- the positions of the chains, but for the first of each
 abbrev pub tails : List LiveChain → List Place
