@@ -9,3 +9,4 @@ pub mod Reading
 pub mod Listing
 pub mod Ending
 pub mod Rejoining
+pub mod Finishing

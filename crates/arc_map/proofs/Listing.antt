@@ -32,7 +32,7 @@ same_only_if p q e =
     let y = (Decides-int_eq p.y q.y).1 (ap (λ (v : Place). v.y) e) in
     rw (x, y)
 
-either : (b : Bool) → (b ≡ true) ⊎ (b ≡ false)
+pub either : (b : Bool) → (b ≡ true) ⊎ (b ≡ false)
 either true = inl refl
 either false = inr refl
 

@@ -7,7 +7,7 @@ use Rattle.grid_exact.specs.Geometry.{Place}
 use Rattle.arc_map.specs.Rejoin.{run_of, tails, rejoined}
 use Rattle.arc_map.specs.declared.work.LiveChain.{LiveChain}
 
-run_of-cons : (number : ℕ) (c : LiveChain) (cs : List LiveChain) → c.place.arc ≡ number → run_of number (c ∷ cs) ≡ c ∷ run_of number cs
+pub run_of-cons : (number : ℕ) (c : LiveChain) (cs : List LiveChain) → c.place.arc ≡ number → run_of number (c ∷ cs) ≡ c ∷ run_of number cs
 run_of-cons number c cs e = ap (λ b. cond b (c ∷ run_of number cs) []) (eq-eqb c.place.arc number e)
 
 pub run_of-next : (number : ℕ) (cs : List LiveChain) (next : ℕ) (c d : LiveChain) → next < length cs → (get_or cs next c).place.arc ≡ number → run_of number (drop next cs) ≡ get_or cs next d ∷ run_of number (drop (next + 1) cs)

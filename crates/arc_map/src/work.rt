@@ -1,6 +1,7 @@
 //! A map at work: its chains as they are now, each of which can be thinned in place.
 ghost use Rattle.std.specs.Prelude.{◌≡◌, ◌≢◌, ◌+◌, ◌-◌, ◌<◌, ◌≤◌, ◌^◌, ◌++◌, All, AllPairs, IfOk, drop, length, map, slice_get, slice_index_or, take};
 ghost use Rattle.std.specs.List.Sorted.{IsStrictlyIncreasing};
+ghost use Rattle.arc_map.specs.Arcs.{map_now};
 ghost use Rattle.arc_map.specs.Chains.{chain_at, chain_places};
 ghost use Rattle.std.specs.List.{range_with_len};
 ghost use Rattle.arc_map.specs.Ends.{EndLists, IsEndTable};
@@ -113,6 +114,20 @@ impl WorkMap {
         let chain = &mut self.chains[k as usize];
         keep(&mut chain.numbers, kept);
         keep(&mut chain.vertices, kept);
+    }
+
+    /// The map as it is now: its arcs are those that the chains make up, and the rest is as in the map
+    /// read.
+    pub fn finish(self) -> ArcMap
+        ensures { result ≡ map_now self.read self.chains }
+    {
+        let WorkMap { base, chains } = self;
+        let (mut arcs, points, polygons, coded) = base.into_parts();
+        let mut next = 0;
+        for number in 0..arcs.len() {
+            next = rejoin(&mut arcs[number], number as u32, &chains, next);
+        }
+        ArcMap::new(arcs, points, polygons, coded)
     }
 }
 
