@@ -1,4 +1,7 @@
 -- Views of the plane: with its axes exchanged, turned half round, and one after another.
+--
+-- A run that is strictly monotone in a frame increases, in the order that compares x, then y, in one of four views: the
+-- plane as it is, negated, turned, or both. So a lemma is proved once, for increasing runs, and carried over by a view.
 use Rattle.std.proofs.Common.{◌≡◌, Bool, true, false, List, [], ◌∷◌, ◌++◌, map, ℤ, pos, negsuc, ◌+ℤ◌, ◌-ℤ◌, ◌*ℤ◌, int_lt, refl, sym, ap, ◌∙◌, arith}
 use Rattle.grid_exact.specs.Geometry.{Place, area_of, turned, IsBefore, IsOnSegment, CommonPoint}
 use Rattle.grid_exact.specs.Geometry.IsBefore.{Left, Below}
@@ -28,7 +31,7 @@ abbrev pub common_turned : (a b c d : Place) → CommonPoint a b c d → CommonP
 common_turned a b c d h =
     record { denominator = h.denominator; first = h.first; second = h.second; whole = h.whole; first_low = h.first_low; first_high = h.first_high; second_low = h.second_low; second_high = h.second_high; across = h.up; up = h.across }
 
-common_turned_back : (a b c d : Place) → CommonPoint (turned a) (turned b) (turned c) (turned d) → CommonPoint a b c d
+pub common_turned_back : (a b c d : Place) → CommonPoint (turned a) (turned b) (turned c) (turned d) → CommonPoint a b c d
 common_turned_back a b c d h =
     record { denominator = h.denominator; first = h.first; second = h.second; whole = h.whole; first_low = h.first_low; first_high = h.first_high; second_low = h.second_low; second_high = h.second_high; across = h.up; up = h.across }
 

@@ -1,6 +1,3 @@
-pub mod Geometry
-pub mod Frame
-pub mod Paths
 pub mod Segments
 pub mod Walks
 pub mod Crossing
@@ -8,6 +5,9 @@ pub mod Spans
 pub mod Clash
 pub mod Views
 pub mod Laws
+pub mod Geometry
+pub mod Frame
+pub mod Paths
 pub mod Near
 pub mod NearLaws
 pub mod Weights

@@ -8,26 +8,23 @@ pub(crate) fn root_of(n: u128) -> u128
     ensures next_square { n < (result + 1) * (result + 1) }
     ensures bounded { result < 2 ^ 61 }
 {
+    let mut root = above_root(n);
+    while root * root > n {
+        root = (root + n / root) / 2;
+    }
+    root
+}
+
+// A number that is not below the root of n, and above it by an eighth or so. Where n is p * p times a number m from
+// 1 to 4, with a power of 2 as p, the root is p times that of m, and (6 + 3 * m) / 8 is close above the root of m.
+fn above_root(n: u128) -> u128
+    requires { n ≤ 2 ^ 121 }
+    ensures above { n < (result + 1) * (result + 1) }
+    ensures low { result ≤ 2 ^ 62 }
+{
     if n == 0 {
         return 0;
     }
-    let mut root = above_root(n);
-    loop {
-        let next = (root + n / root) / 2;
-        if next >= root {
-            return root;
-        }
-        root = next;
-    }
-}
-
-// A power of 2 that is above the root, and at most twice the root or so.
-fn above_root(n: u128) -> u128
-    requires positive { 0 < n }
-    requires bounded { n ≤ 2 ^ 121 }
-    ensures above { n < result * result }
-    ensures some { 1 ≤ result }
-    ensures low { result ≤ 2 ^ 61 }
-{
-    1 << (n.ilog2() / 2 + 1)
+    let half = n.ilog2() / 2;
+    3 * ((2 << half) + (n >> half)) / 8 + 1
 }

@@ -1,3 +1,4 @@
+-- The root that is found is the greatest root of the product.
 use Rattle.std.proofs.Common.{w64, to_z, of_z, arith, ◌≡◌, pos, ◌*ℤ◌, ◌≤ℤ◌, refl}
 use Rattle.std.specs.Int.{w128}
 use Rattle.std.specs.Prelude.{unsigned_abs}

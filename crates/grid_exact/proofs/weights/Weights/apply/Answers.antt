@@ -1,3 +1,4 @@
+-- The products that the code makes are the weighted coordinates.
 use Rattle.grid_exact.proofs.Weighted.{weight_passed, on_grid_passed}
 use Rattle.grid_exact.proofs.weights.Weights.apply.Goals as goal
 

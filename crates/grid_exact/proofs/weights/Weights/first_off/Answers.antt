@@ -1,8 +1,7 @@
-use Rattle.std.proofs.Common.{◌≡◌, ◌≤◌, ◌<◌, take, length, arith, rules}
-use Rattle.std.specs.Prelude.{All}
+-- One more point stays on the grid, and at the end all of them.
+use Rattle.std.proofs.Common.{◌≤◌, length, arith, rules}
 use Rattle.std.proofs.lemmas.List.{take_all}
 use Rattle.std.proofs.lemmas.List.Elements.{All-more}
-use Rattle.grid_exact.specs.Geometry.{Place}
 use Rattle.grid_exact.specs.Weights.{StaysOnGrid}
 use Rattle.grid_exact.proofs.weights.Weights.first_off.Goals as goal
 

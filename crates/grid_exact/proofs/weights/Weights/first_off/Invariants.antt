@@ -1,3 +1,4 @@
+-- The points before this one stay on the grid.
 use Rattle.std.proofs.Common.{take}
 use Rattle.std.specs.Prelude.{All}
 use Rattle.grid_exact.specs.Weights.{StaysOnGrid}
