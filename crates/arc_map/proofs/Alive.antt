@@ -9,6 +9,7 @@ use Rattle.arc_map.specs.Arranged.{position_at, nowhere}
 use Rattle.arc_map.specs.Work.{AreKeptIn}
 use Rattle.arc_map.specs.Live.{live_chain, IsLive}
 use Rattle.arc_map.specs.declared.work.LiveChain.{LiveChain}
+use Rattle.arc_map.proofs.Rising.{rising-length}
 use Rattle.arc_map.proofs.Thinning.{kept_below, kept_spans, kept_positions, kept_distinct, kept_rest}
 
 -- now is what is left of the chain before where the vertices at these places are kept
@@ -33,6 +34,7 @@ live_after m x y kept live keep thinned =
     record {
       lies = rw thinned.place live.lies;
       spans = rw (thinned.place, thinned.numbers) spans;
+      short = rw thinned.numbers (omega (arith, length-map kept (λ at. get_or x.numbers.items at 0), rising-length (length x.numbers.items) kept keep.rising within, live.short));
       positions = rw (thinned.place, thinned.numbers, thinned.vertices) positions;
       distinct = rw thinned.vertices distinct;
     }

@@ -74,6 +74,7 @@ live_read m r c lies run read =
     record {
       lies = rw read.place lies;
       spans = rw (read.place, read.numbers) (spans_read r lies.edge);
+      short = rw read.numbers (omega (arith, numbers_count r, run.short, length-map (range_with_len (r.«from» + 1) (r.to - r.«from»)) (vertex_in m r.arc), length-range_with_len (r.«from» + 1) (r.to - r.«from»)));
       positions = rw (read.place, read.numbers) positions;
       distinct = rw (positions ∙ sym (places_of_chain_in m r lies.edge)) distinct;
     }

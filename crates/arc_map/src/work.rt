@@ -74,6 +74,7 @@ impl WorkMap {
         requires { k < length self.now.chains }
         ensures places { result.now ≡ chain_places (chain_at self.now.chains k) }
         ensures several { 2 ≤ length result.now }
+        ensures short { length result.now ≤ 1024 }
         ensures distinct { AllPairs (λ p q. p ≢ q) result.now }
     {
         self.chains[k as usize].vertices.as_slice()
