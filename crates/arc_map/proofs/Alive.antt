@@ -1,9 +1,8 @@
 -- A chain in memory, and what becomes of it and of the list of chains where it is thinned.
-use Rattle.std.proofs.Common.{◌≡◌, ◌≢◌, ◌∙◌, ℕ, ◌<◌, ◌≤◌, List, All, AllPairs, map, length, get_or, set, drop, refl, sym, ap, arith, subst}
+use Rattle.std.proofs.Common.{◌≡◌, ◌∙◌, ℕ, ◌<◌, List, map, length, get_or, drop, ap, arith}
 use Rattle.std.proofs.lemmas.List.{length-map}
 use Rattle.grid_exact.specs.Geometry.{Place}
 use Rattle.arc_map.specs.Map.{Map}
-use Rattle.arc_map.specs.Chains.{Chain, chain_at}
 use Rattle.arc_map.specs.Paths.{vertices_at}
 use Rattle.arc_map.specs.Arranged.{position_at, nowhere}
 use Rattle.arc_map.specs.Work.{AreKeptIn}

@@ -1,6 +1,6 @@
 -- The chains of a map in memory, joined into its arcs: they are arcs again, and those that the chains make up.
-use Rattle.std.proofs.Common.{◌≡◌, ◌≢◌, ◌⊎◌, ◌∙◌, ℕ, zero, suc, ◌+◌, ◌-◌, ◌<◌, ◌≤◌, Bool, true, false, List, [], ◌∷◌, ◌++◌, cond, nat_eq, All, AllPairs, map, length, get_or, slice_index, take, drop, set, sum_by, refl, sym, ap, subst, inl, inr, arith, append_assoc, append-nil, length-append, length-set, length-drop}
-use Rattle.std.specs.List.{AllByRecursion, AllAdjacentBelow}
+use Rattle.std.proofs.Common.{◌≡◌, ◌≢◌, ◌∙◌, ℕ, zero, suc, ◌+◌, ◌-◌, ◌<◌, ◌≤◌, Bool, true, false, List, [], ◌∷◌, ◌++◌, cond, nat_eq, All, AllPairs, map, length, get_or, take, drop, set, sum_by, refl, sym, ap, subst, inl, inr, arith, append_assoc, append-nil, length-append, length-drop}
+use Rattle.std.specs.List.{AllByRecursion}
 use Rattle.std.specs.List.Sorted.{IsStrictlyIncreasing}
 use Rattle.std.proofs.lemmas.Bool.Decides.{eqb_tells}
 use Rattle.std.proofs.lemmas.List.{get_or-map, get_or-drop, length-map, map-append, take_more_set, drop_more, drop-drop, drop-set-lt, take_all, drop_all}
@@ -10,14 +10,12 @@ use Rattle.std.proofs.lemmas.Simd.{map-map}
 use Rattle.grid_exact.specs.Geometry.{Place}
 use Rattle.grid_exact.specs.Walks.{EachEdge, end_of}
 use Rattle.arc_map.specs.Map.{Map, IsArc}
-use Rattle.arc_map.specs.Vertices.{Vertex, places}
-use Rattle.arc_map.specs.Chains.{Chain, chain_places}
+use Rattle.arc_map.specs.Vertices.{places}
 use Rattle.arc_map.specs.Arcs.{chains_of_arc, chains_past_arc, joined_rests, joined_arc, arcs_now}
 use Rattle.arc_map.specs.Arranged.{arc_at, position_at, nowhere}
 use Rattle.arc_map.specs.Work.{vertex_in}
 use Rattle.arc_map.specs.Live.{live_chain, IsLive, AreJoined}
 use Rattle.arc_map.specs.Rejoin.{run_of, tails, rejoined}
-use Rattle.arc_map.specs.declared.refs.ChainRef.{ChainRef}
 use Rattle.arc_map.specs.declared.work.LiveChain.{LiveChain}
 use Rattle.arc_map.proofs.Rejoining.{run_of-cons}
 
@@ -65,11 +63,11 @@ walk_from m c n ns numbers live =
       positions = positions;
       edges = each_distinct (position c.place.«from») (map position ns) (subst (AllPairs (λ p q. p ≢ q)) positions live.distinct);
       last =
-        sym (end_place (position c.place.«from») (map position ns) nowhere)
-        ∙ ap (λ ps. get_or ps (length (map position ns)) nowhere) (sym positions ∙ live.positions)
-        ∙ ap (λ k. get_or (map position c.numbers.items) k nowhere) (length-map ns position)
-        ∙ get_or-map position c.numbers.items (length ns) 0 nowhere (omega arith)
-        ∙ ap position last;
+          sym (end_place (position c.place.«from») (map position ns) nowhere)
+          ∙ ap (λ ps. get_or ps (length (map position ns)) nowhere) (sym positions ∙ live.positions)
+          ∙ ap (λ k. get_or (map position c.numbers.items) k nowhere) (length-map ns position)
+          ∙ get_or-map position c.numbers.items (length ns) 0 nowhere (omega arith)
+          ∙ ap position last;
       short = let first_number = live.spans.first in omega (arith, gap, last, first_number, length-map ns position);
       within = live.lies.within;
       chain_rest = map-map (λ v. v.place) (vertex_in m c.place.arc) (drop 1 c.numbers.items) ∙ ap (λ xs. map position (drop 1 xs)) numbers;
@@ -102,10 +100,12 @@ AreEndToEnd (c ∷ d ∷ cs) = (c.place.arc ≡ d.place.arc → c.place.to ≡ d
 pub end_to_end : (cs : List LiveChain) → AreJoined (map (λ c. c.place) cs) → AreEndToEnd cs
 end_to_end [] joined = tt
 end_to_end (c ∷ []) joined = tt
-end_to_end (c ∷ d ∷ cs) joined =
-    (joined 0 c.place (omega arith), end_to_end (d ∷ cs) (λ k e below.
+end_to_end (c ∷ d ∷ cs) joined = (
+  joined 0 c.place (omega arith),
+  end_to_end (d ∷ cs) (λ k e below.
       let next : suc k + 1 ≡ suc (k + 1) = omega arith in
-      subst (λ n. (get_or (map (λ x. x.place) (d ∷ cs)) k e).arc ≡ (get_or (map (λ x. x.place) (c ∷ d ∷ cs)) n e).arc → (get_or (map (λ x. x.place) (d ∷ cs)) k e).to ≡ (get_or (map (λ x. x.place) (c ∷ d ∷ cs)) n e).«from») next (joined (suc k) e (omega arith))))
+      subst (λ n. (get_or (map (λ x. x.place) (d ∷ cs)) k e).arc ≡ (get_or (map (λ x. x.place) (c ∷ d ∷ cs)) n e).arc → (get_or (map (λ x. x.place) (d ∷ cs)) k e).to ≡ (get_or (map (λ x. x.place) (c ∷ d ∷ cs)) n e).«from») next (joined (suc k) e (omega arith))),
+)
 
 end_to_end_tail : (c : LiveChain) (cs : List LiveChain) → AreEndToEnd (c ∷ cs) → AreEndToEnd cs
 end_to_end_tail c [] linked = tt
@@ -126,8 +126,8 @@ data OfArc (number : ℕ) (c : LiveChain) : Type 0 where
 of_arc : (number : ℕ) (c : LiveChain) → OfArc number c
 of_arc number c =
     elim (eqb_tells c.place.arc number) [
-      inl same ↦ Of same.0 same.1
-    | inr differs ↦ Other differs.0
+      | inl same ↦ Of same.0 same.1
+      | inr differs ↦ Other differs.0
     ]
 
 run_of-other : (number : ℕ) (c : LiveChain) (cs : List LiveChain) → nat_eq c.place.arc number ≡ false → run_of number (c ∷ cs) ≡ []
@@ -161,18 +161,18 @@ joined_run m number c [] arc walk walks linked =
     one_more m number c [] arc walk (let within = walk.within in let same = ap (λ a. length (arc_at m a)) arc in omega (arith, within, same)) tt
 joined_run m number c (d ∷ ds) arc walk walks linked =
     elim (of_arc number d) [
-      Of test is ↦
-        let behind = joined_run m number d ds is walks.0 walks.1 linked.1 in
-        let same = arc ∙ sym is in
-        let joint = linked.0 same in
-        let room = behind.room in
-        one_more m number c (d ∷ ds) arc walk (omega (arith, joint, room)) (rw (same, joint) behind.edges)
-    | Other test ↦
-        let none = ap tails (run_of-other number d ds test) in
-        let empty = ap length none in
-        let within = walk.within in
-        let same = ap (λ a. length (arc_at m a)) arc in
-        one_more m number c (d ∷ ds) arc walk (omega (arith, within, same, empty)) (rw none tt)
+      | Of test is ↦
+          let behind = joined_run m number d ds is walks.0 walks.1 linked.1 in
+          let same = arc ∙ sym is in
+          let joint = linked.0 same in
+          let room = behind.room in
+          one_more m number c (d ∷ ds) arc walk (omega (arith, joint, room)) (rw (same, joint) behind.edges)
+      | Other test ↦
+          let none = ap tails (run_of-other number d ds test) in
+          let empty = ap length none in
+          let within = walk.within in
+          let same = ap (λ a. length (arc_at m a)) arc in
+          one_more m number c (d ∷ ds) arc walk (omega (arith, within, same, empty)) (rw none tt)
     ]
 
 -- what becomes of an arc
@@ -199,20 +199,20 @@ pub rejoined_arc : (m : Map) (number : ℕ) (cs : List LiveChain) → IsArc (arc
 rejoined_arc m number [] proper walks linked = as_it_was m number [] proper refl
 rejoined_arc m number (c ∷ cs) proper walks linked =
     elim (of_arc number c) [
-      Of test is ↦
-        let run = joined_run m number c cs is walks.0 walks.1 linked in
-        let room = run.room in
-        let here : rejoined (arc_at m number) (run_of number (c ∷ cs)) ≡ position_at m c.place.arc c.place.«from» ∷ tails (run_of number (c ∷ cs)) =
+      | Of test is ↦
+          let run = joined_run m number c cs is walks.0 walks.1 linked in
+          let room = run.room in
+          let here : rejoined (arc_at m number) (run_of number (c ∷ cs)) ≡ position_at m c.place.arc c.place.«from» ∷ tails (run_of number (c ∷ cs)) =
           ap (rejoined (arc_at m number)) (run_of-cons number c cs is)
           ∙ ap (λ vs. take 1 vs ++ tails (c ∷ run_of number cs)) walks.0.positions
           ∙ ap (λ r. position_at m c.place.arc c.place.«from» ∷ tails r) (sym (run_of-cons number c cs is))
           in
-        record {
-          room = omega (arith, room);
-          shorter = let count = ap length here in omega (arith, count, room);
-          proper = rw here run.edges;
-        }
-    | Other test ↦ as_it_was m number (c ∷ cs) proper (run_of-other number c cs test)
+          record {
+            room = omega (arith, room);
+            shorter = let count = ap length here in omega (arith, count, room);
+            proper = rw here run.edges;
+          }
+      | Other test ↦ as_it_was m number (c ∷ cs) proper (run_of-other number c cs test)
     ]
 
 -- ---- the same chains, as the map's arcs are defined
@@ -222,13 +222,13 @@ run_is m number [] = refl
 run_is m number (c ∷ cs) =
     let rest = run_is m number cs in
     elim (of_arc number c) [
-      Of test is ↦
-        ap (λ (b : Bool). elim b [ true ↦ live_chain m c ∷ chains_of_arc number (map (live_chain m) cs) | false ↦ [] ]) test
-        ∙ ap (λ ks. live_chain m c ∷ ks) rest
-        ∙ sym (ap (map (live_chain m)) (run_of-cons number c cs is))
-    | Other test ↦
-        ap (λ (b : Bool). elim b [ true ↦ live_chain m c ∷ chains_of_arc number (map (live_chain m) cs) | false ↦ [] ]) test
-        ∙ sym (ap (map (live_chain m)) (run_of-other number c cs test))
+      | Of test is ↦
+          ap (λ (b : Bool). elim b [ true ↦ live_chain m c ∷ chains_of_arc number (map (live_chain m) cs) | false ↦ [] ]) test
+          ∙ ap (λ ks. live_chain m c ∷ ks) rest
+          ∙ sym (ap (map (live_chain m)) (run_of-cons number c cs is))
+      | Other test ↦
+          ap (λ (b : Bool). elim b [ true ↦ live_chain m c ∷ chains_of_arc number (map (live_chain m) cs) | false ↦ [] ]) test
+          ∙ sym (ap (map (live_chain m)) (run_of-other number c cs test))
     ]
 
 pub past_is : (m : Map) (number : ℕ) (cs : List LiveChain) → chains_past_arc number (map (live_chain m) cs) ≡ map (live_chain m) (drop (length (run_of number cs)) cs)
@@ -236,13 +236,13 @@ past_is m number [] = refl
 past_is m number (c ∷ cs) =
     let rest = past_is m number cs in
     elim (of_arc number c) [
-      Of test is ↦
-        ap (λ (b : Bool). elim b [ true ↦ chains_past_arc number (map (live_chain m) cs) | false ↦ live_chain m c ∷ map (live_chain m) cs ]) test
-        ∙ rest
-        ∙ sym (ap (λ r. map (live_chain m) (drop (length r) (c ∷ cs))) (run_of-cons number c cs is))
-    | Other test ↦
-        ap (λ (b : Bool). elim b [ true ↦ chains_past_arc number (map (live_chain m) cs) | false ↦ live_chain m c ∷ map (live_chain m) cs ]) test
-        ∙ sym (ap (λ r. map (live_chain m) (drop (length r) (c ∷ cs))) (run_of-other number c cs test))
+      | Of test is ↦
+          ap (λ (b : Bool). elim b [ true ↦ chains_past_arc number (map (live_chain m) cs) | false ↦ live_chain m c ∷ map (live_chain m) cs ]) test
+          ∙ rest
+          ∙ sym (ap (λ r. map (live_chain m) (drop (length r) (c ∷ cs))) (run_of-cons number c cs is))
+      | Other test ↦
+          ap (λ (b : Bool). elim b [ true ↦ chains_past_arc number (map (live_chain m) cs) | false ↦ live_chain m c ∷ map (live_chain m) cs ]) test
+          ∙ sym (ap (λ r. map (live_chain m) (drop (length r) (c ∷ cs))) (run_of-other number c cs test))
     ]
 
 rests_are : (m : Map) (cs : List LiveChain) → AllByRecursion (IsWalk m) cs → places (joined_rests (map (live_chain m) cs)) ≡ tails cs
@@ -262,8 +262,8 @@ run_walks : (m : Map) (number : ℕ) (cs : List LiveChain) → AllByRecursion (I
 run_walks m number [] walks = tt
 run_walks m number (c ∷ cs) walks =
     elim (of_arc number c) [
-      Of test is ↦ rw (run_of-cons number c cs is) (walks.0, run_walks m number cs walks.1)
-    | Other test ↦ rw (run_of-other number c cs test) tt
+      | Of test is ↦ rw (run_of-cons number c cs is) (walks.0, run_walks m number cs walks.1)
+      | Other test ↦ rw (run_of-other number c cs test) tt
     ]
 
 -- the arc number and those behind it
@@ -279,8 +279,8 @@ run_length : (number : ℕ) (cs : List LiveChain) → length (run_of number cs) 
 run_length number [] = omega arith
 run_length number (c ∷ cs) =
     elim (of_arc number c) [
-      Of test is ↦ omega (arith, ap length (run_of-cons number c cs is), run_length number cs)
-    | Other test ↦ omega (arith, ap length (run_of-other number c cs test))
+      | Of test is ↦ omega (arith, ap length (run_of-cons number c cs is), run_length number cs)
+      | Other test ↦ omega (arith, ap length (run_of-other number c cs test))
     ]
 
 -- the arcs below number are as the chains make them up, the others as they were; the chains from number next on are left
@@ -321,12 +321,12 @@ settle_more m cs arcs number next walks linked below old =
     let X = arcs_now (number + 1) (drop (number + 1) m.arcs) (map (live_chain m) (drop (next + length run) cs)) in
     let one : suc number ≡ number + 1 = omega arith in
     let step : arcs_now number (drop number m.arcs) (map (live_chain m) behind) ≡ new ∷ X =
-      ap (λ pss. arcs_now number pss (map (live_chain m) behind)) (drop_more m.arcs number [] below)
-      ∙ arcs_step m number (get_or m.arcs number []) (drop (number + 1) m.arcs) behind (all_behind (IsWalk m) next cs walks)
-      ∙ ap (λ ps. rejoined ps run ∷ arcs_now (suc number) (drop (number + 1) m.arcs) (map (live_chain m) (drop (length run) behind))) (sym coming.arc)
-      ∙ ap (λ ds. new ∷ arcs_now (suc number) (drop (number + 1) m.arcs) (map (live_chain m) ds)) (drop-drop (length run) next cs)
-      ∙ ap (λ n. new ∷ arcs_now n (drop (number + 1) m.arcs) (map (live_chain m) (drop (next + length run) cs))) one
-      in
+    ap (λ pss. arcs_now number pss (map (live_chain m) behind)) (drop_more m.arcs number [] below)
+    ∙ arcs_step m number (get_or m.arcs number []) (drop (number + 1) m.arcs) behind (all_behind (IsWalk m) next cs walks)
+    ∙ ap (λ ps. rejoined ps run ∷ arcs_now (suc number) (drop (number + 1) m.arcs) (map (live_chain m) (drop (length run) behind))) (sym coming.arc)
+    ∙ ap (λ ds. new ∷ arcs_now (suc number) (drop (number + 1) m.arcs) (map (live_chain m) ds)) (drop-drop (length run) next cs)
+    ∙ ap (λ n. new ∷ arcs_now n (drop (number + 1) m.arcs) (map (live_chain m) (drop (next + length run) cs))) one
+    in
     let size = length-drop next cs in
     let sum = sum_by-set length arcs number new [] coming.inside in
     let shorter : length new ≤ length (get_or arcs number []) = subst (λ ps. length (rejoined ps run) ≤ length ps) (sym coming.arc) coming.joined.shorter in
@@ -335,15 +335,15 @@ settle_more m cs arcs number next walks linked below old =
     record {
       known = omega (arith, run_length number behind, size, known);
       settled =
-        ap (λ ps. ps ++ X) (take_more_set arcs number new coming.inside)
-        ∙ append_assoc (take number arcs) (new ∷ []) X
-        ∙ ap (λ ps. take number arcs ++ ps) (sym step)
-        ∙ old.settled;
+          ap (λ ps. ps ++ X) (take_more_set arcs number new coming.inside)
+          ∙ append_assoc (take number arcs) (new ∷ []) X
+          ∙ ap (λ ps. take number arcs ++ ps) (sym step)
+          ∙ old.settled;
       left =
-        drop-set-lt (number + 1) arcs number new (omega arith)
-        ∙ sym (drop-drop 1 number arcs)
-        ∙ ap (drop 1) old.left
-        ∙ drop-drop 1 number m.arcs;
+          drop-set-lt (number + 1) arcs number new (omega arith)
+          ∙ sym (drop-drop 1 number arcs)
+          ∙ ap (drop 1) old.left
+          ∙ drop-drop 1 number m.arcs;
       proper = All-set IsArc arcs number new (subst (λ ps. IsArc (rejoined ps run)) (sym coming.arc) coming.joined.proper) old.proper;
       fewer = omega (arith, sum, shorter, fewer);
     }

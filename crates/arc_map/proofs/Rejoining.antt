@@ -1,10 +1,9 @@
 -- The chains of an arc in memory, joined into it one after the other.
-use Rattle.std.proofs.Common.{◌≡◌, ◌∙◌, ℕ, suc, ◌+◌, ◌-◌, ◌<◌, ◌≤◌, Bool, true, List, [], ◌∷◌, ◌++◌, cond, nat_eq, length, get_or, take, drop, refl, sym, ap, subst, arith, add-one, drop-cons, append_assoc, length-append, length-drop}
-use Rattle.std.specs.List.{take_while}
+use Rattle.std.proofs.Common.{◌≡◌, ◌∙◌, ℕ, suc, ◌+◌, ◌-◌, ◌<◌, List, [], ◌∷◌, ◌++◌, cond, length, get_or, take, drop, ap, subst, arith, drop-cons, append_assoc, length-append, length-drop}
 use Rattle.std.proofs.Common.{eq-eqb}
 use Rattle.std.proofs.lemmas.List.{get_or_default, take_all}
 use Rattle.grid_exact.specs.Geometry.{Place}
-use Rattle.arc_map.specs.Rejoin.{run_of, tails, rejoined}
+use Rattle.arc_map.specs.Rejoin.{run_of, tails}
 use Rattle.arc_map.specs.declared.work.LiveChain.{LiveChain}
 
 pub run_of-cons : (number : ℕ) (c : LiveChain) (cs : List LiveChain) → c.place.arc ≡ number → run_of number (c ∷ cs) ≡ c ∷ run_of number cs

@@ -1,6 +1,6 @@
 -- How the chains of a map at work lie in memory: for each the numbers of its vertices in the arc as read, and
 -- their positions.
-use Rattle.std.specs.Prelude.{◌≡◌, ◌≢◌, ◌+◌, ◌-◌, ◌<◌, ◌≤◌, ◌^◌, ℕ, List, map, drop, length, slice_index, slice_range, All, AllPairs}
+use Rattle.std.specs.Prelude.{◌≡◌, ◌≢◌, ◌+◌, ◌-◌, ◌≤◌, ◌^◌, ℕ, List, map, drop, length, slice_index, slice_range, All, AllPairs}
 use Rattle.std.specs.List.{AllAdjacentBelow, range_with_len}
 use Rattle.std.specs.List.Sorted.{IsStrictlyIncreasing}
 use Rattle.arc_map.specs.Map.{Map}

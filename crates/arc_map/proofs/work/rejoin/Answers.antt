@@ -1,5 +1,5 @@
-use Rattle.std.proofs.Common.{◌≡◌, ◌∙◌, ◌≤◌, ◌+◌, ◌-◌, ◌<◌, ◌++◌, List, length, get_or, take, drop, ap, sym, rules, arith}
-use Rattle.arc_map.specs.Rejoin.{run_of, tails, rejoined}
+use Rattle.std.proofs.Common.{◌∙◌, ◌+◌, get_or, take, drop, ap, rules, arith}
+use Rattle.arc_map.specs.Rejoin.{run_of}
 use Rattle.arc_map.proofs.Rejoining.{run_of-next, rest_of, tails-written, tails-length}
 use Rattle.arc_map.proofs.work.rejoin.Goals as goal
 

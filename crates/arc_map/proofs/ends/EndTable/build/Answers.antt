@@ -1,8 +1,6 @@
-use Rattle.std.proofs.Common.{◌≡◌, ◌≢◌, ◌∙◌, ◌+◌, ◌-◌, ◌<◌, ℕ, List, [], ◌∷◌, ◌++◌, cond, length, get_or, sym, ap, subst, refl, arith, rules}
-use Rattle.grid_exact.specs.Geometry.{Place}
+use Rattle.std.proofs.Common.{◌≡◌, ◌∙◌, ◌+◌, [], ◌∷◌, ◌++◌, cond, get_or, sym, ap, subst, rules}
 use Rattle.grid_exact.specs.Walks.{end_of}
-use Rattle.arc_map.specs.Vertices.{places}
-use Rattle.arc_map.specs.Chains.{Chain, chain_at, chain_places}
+use Rattle.arc_map.specs.Chains.{chain_at}
 use Rattle.arc_map.specs.Ends.{is_same, listed}
 use Rattle.arc_map.proofs.Ending.{AreEndingBelow, all_ending, ends_added, last_of_places, ends_differ}
 use Rattle.arc_map.proofs.ends.EndTable.build.Goals as goal
@@ -22,7 +20,7 @@ loop-k-preserved c = λ p.
     let two = c.in_ok-add-2.ensures p ∙ ap (λ q. cond (is_same p q) (between ++ k ∷ []) between) last in
     let added = two ∙ ap (λ ns. cond (is_same p (end_of chain.first chain.rest).place) (ns ++ k ∷ []) ns) one in
     subst (AreEndingBelow chains (k + 1) p) (sym added)
-      (ends_added chains k p old (ends_differ chain vs is c.chain-chain.ensures.several c.chain-chain.ensures.distinct) (c.loop-k.invariant p))
+    (ends_added chains k p old (ends_differ chain vs is c.chain-chain.ensures.several c.chain-chain.ensures.distinct) (c.loop-k.invariant p))
 
 pub returns : goal.returns
 returns c = λ p. all_ending c.args.work.now.chains c.loop-k.k p (listed c.loop-k.table.places c.loop-k.table.lists p) (search rules) (c.loop-k.invariant p)

@@ -1,6 +1,6 @@
-use Rattle.std.proofs.Common.{◌≡◌, ◌∙◌, ◌<◌, map, length, ap, sym, subst, arith}
+use Rattle.std.proofs.Common.{◌<◌, length, sym, subst, arith}
 use Rattle.std.proofs.lemmas.List.{length-map}
-use Rattle.arc_map.specs.Chains.{chain_at, chain_places, no_chain}
+use Rattle.arc_map.specs.Chains.{no_chain}
 use Rattle.arc_map.specs.Work.{Work}
 use Rattle.arc_map.specs.Live.{live_chain, IsLive}
 use Rattle.arc_map.proofs.Elements.{of_item, mapped-at}

@@ -1,9 +1,8 @@
-use Rattle.std.proofs.Common.{◌≡◌, ◌∙◌, ◌+◌, ◌<◌, ◌≤◌, ◌++◌, List, [], All, map, length, get_or, set, take, drop, sum_by, ap, sym, refl, subst, arith, rules, length-set}
+use Rattle.std.proofs.Common.{◌≡◌, ◌∙◌, ◌+◌, ◌<◌, List, [], map, length, get_or, set, drop, sum_by, ap, sym, refl, subst, arith, length-set}
 use Rattle.std.specs.List.{AllByRecursion}
 use Rattle.std.proofs.lemmas.List.{length-map, map-set}
 use Rattle.std.proofs.lemmas.List.Elements.{recursion_from_All}
-use Rattle.grid_exact.specs.Geometry.{Place}
-use Rattle.arc_map.specs.Map.{Map, IsMap, IsArc}
+use Rattle.arc_map.specs.Map.{Map, IsMap}
 use Rattle.arc_map.specs.Arcs.{arcs_now}
 use Rattle.arc_map.specs.Work.{Work}
 use Rattle.arc_map.specs.Live.{work_in, live_chain, IsLive, AreLive}
@@ -11,7 +10,7 @@ use Rattle.arc_map.specs.Rejoin.{run_of, rejoined}
 use Rattle.arc_map.specs.declared.work.WorkMap.TheInside.{Inside}
 use Rattle.arc_map.specs.declared.work.LiveChain.{LiveChain}
 use Rattle.arc_map.proofs.Elements.{mapped-at}
-use Rattle.arc_map.proofs.Finishing.{IsWalk, AreEndToEnd, walks_of, end_to_end, IsSettled, IsNext, next_arc, settle_more}
+use Rattle.arc_map.proofs.Finishing.{IsWalk, AreEndToEnd, walks_of, end_to_end, IsSettled, next_arc, settle_more}
 use Rattle.arc_map.proofs.work.WorkMap.finish.Goals as goal
 
 -- what is known of the chains
@@ -89,9 +88,9 @@ new-requires c =
     let vecs = c.loop-number.arcs.items in
     let first = map (λ arc. arc.items) c.into_parts-arcs.result.0.items in
     let same : length (map (λ arc. arc.items) vecs) ≡ length first =
-      length-map vecs (λ arc. arc.items) ∙ c.loop-number.invariant.count ∙ sym (ap (λ (m : Map). length m.arcs) read) ∙ ap (λ (m : Map). length m.arcs) c.into_parts-arcs.ensures.value in
+    length-map vecs (λ arc. arc.items) ∙ c.loop-number.invariant.count ∙ sym (ap (λ (m : Map). length m.arcs) read) ∙ ap (λ (m : Map). length m.arcs) c.into_parts-arcs.ensures.value in
     let sum : sum_by length c.args.self.read.arcs ≡ sum_by length first =
-      sym (ap (λ (m : Map). sum_by length m.arcs) read) ∙ ap (λ (m : Map). sum_by length m.arcs) c.into_parts-arcs.ensures.value in
+    sym (ap (λ (m : Map). sum_by length m.arcs) read) ∙ ap (λ (m : Map). sum_by length m.arcs) c.into_parts-arcs.ensures.value in
     record {
       arcs = c.loop-number.invariant.proper;
       names = rw same before.names;

@@ -2,7 +2,6 @@ use Rattle.std.proofs.Common.{◌≡◌, ◌≤◌, ◌++◌, map, All, length, 
 use Rattle.arc_map.specs.Map.{IsArc}
 use Rattle.arc_map.specs.Arcs.{arcs_now}
 use Rattle.arc_map.specs.Live.{live_chain}
-use Rattle.arc_map.proofs.Finishing.{IsWalk}
 use Rattle.arc_map.proofs.work.WorkMap.finish.Given as goal
 
 abbrev pub invariant-loop-number : goal.invariant-loop-number

@@ -1,4 +1,4 @@
-use Rattle.std.proofs.Common.{◌≡◌, ◌∙◌, ◌<◌, ℕ, List, All, map, length, get_or, set, drop, refl, ap, sym, subst, arith}
+use Rattle.std.proofs.Common.{◌≡◌, ◌∙◌, ◌<◌, ℕ, List, map, length, get_or, set, drop, refl, ap, sym, subst, arith}
 use Rattle.std.proofs.lemmas.List.{length-map, length-set, map-set}
 use Rattle.std.proofs.lemmas.List.Elements.{All-set}
 use Rattle.std.proofs.Math.Seq.{map-set_same}
@@ -79,7 +79,7 @@ returns-clause-thinned c =
     let place = ap (λ (v : LiveChain). v.place) c.index_mut-chain.ensures.value in
     let refs = map-set_same (λ (v : LiveChain). v.place) w.chains.items c.args.k y x place in
     let chains : map (live_chain w.base) (set w.chains.items c.args.k y) ≡ thinned (work_in w).chains c.args.k (vertices_at (chain_at (work_in w).chains c.args.k) (drop 1 c.args.kept.now)) =
-      map-set (live_chain w.base) w.chains.items c.args.k y ∙ ap (set (map (live_chain w.base) w.chains.items) c.args.k) (after ∙ sym (ap (λ (v : Chain). record v { rest = vertices_at v (drop 1 c.args.kept.now) }) f.chain)) in
+    map-set (live_chain w.base) w.chains.items c.args.k y ∙ ap (set (map (live_chain w.base) w.chains.items) c.args.k) (after ∙ sym (ap (λ (v : Chain). record v { rest = vertices_at v (drop 1 c.args.kept.now) }) f.chain)) in
     let now : Work = record { read = w.base; refs = map (λ (v : LiveChain). v.place) (set w.chains.items c.args.k y); chains = map (live_chain w.base) (set w.chains.items c.args.k y) } in
     subst (λ (v : Work). now ≡ thinned_work v c.args.k c.args.kept.now) c.self.view_is (same_work w.base refs chains)
 
