@@ -1,0 +1,17 @@
+pub mod Walks
+pub mod Map
+pub mod Vertices
+pub mod Allowed
+pub mod Clear
+pub mod Chains
+pub mod Edges
+pub mod Paths
+pub mod Arcs
+pub mod Arranged
+pub mod Work
+pub mod Live
+pub mod Ends
+pub mod Rejoin
+pub mod ArcList
+pub mod Records
+pub mod FlatRecords
