@@ -1,3 +1,10 @@
+pub mod Segments
+pub mod Walks
+pub mod Crossing
+pub mod Spans
+pub mod Clash
+pub mod Views
+pub mod Laws
 pub mod Geometry
 pub mod Frame
 pub mod Paths
