@@ -3,8 +3,8 @@ use Rattle.std.specs.Prelude.{codes}
 use Rattle.std.proofs.Common.{◌≡◌, ℕ, ◌<◌, Bool, true, false, ◌&&◌, Option, Some, None, Result, Ok, Err, length, refl, sym, ap, cond, ◌∙◌}
 use Rattle.std.proofs.lemmas.Bool.{cond-true, cond-false}
 use Rattle.json_scan.specs.declared.node.Kind.TheVariants as kind
-use Rattle.json_scan.specs.declared.scan.Found.{Found}
-use Rattle.json_scan.specs.declared.scan.Found.TheVariants.{Absent, Once, Twice}
+use Rattle.json_scan.specs.declared.view.Found.{Found}
+use Rattle.json_scan.specs.declared.view.Found.TheVariants.{Absent, Once, Twice}
 use Rattle.json_scan.specs.View.{ScanView}
 use Rattle.json_scan.specs.Tree.{Extent, Tree, ObjectAt, Trees, NoTrees, NextTree, Entries, Lookup, lookup, NowhereIn, OnceIn, TwiceIn, NodeIs, NodesAre, HasTree, node_at, after_at, place_of}
 use Rattle.json_scan.specs.Finds.{Finds, HasItems}

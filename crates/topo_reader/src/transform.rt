@@ -1,6 +1,8 @@
 //! The transform of a topology.
 
-ghost use Rattle.std.specs.Prelude.{◌≡◌, ℕ, List, codes};
+ghost use Rattle.std.specs.Prelude.{◌≡◌, ℕ, List, IsTrue, codes};
+ghost use Rattle.std.specs.Char.{is_ascii};
+ghost use Rattle.std.specs.List.{list_all};
 ghost use Rattle.json_scan.specs.Tree.{Extent, Tree, Trees, ObjectAt, Entries, NodeIs, NodesAre, HasTree, node_at, lookup};
 ghost use Rattle.json_scan.specs.Finds.{HasItems};
 ghost use Rattle.topo_reader.specs.Reads.{is_number, are_two_numbers, is_pair, is_one_pair, has_both_pairs, transform_of, coded_by};
@@ -54,6 +56,7 @@ fn is_pair(scan: &Scan<'_>, node: u32) -> bool
 fn is_one_pair(scan: &Scan<'_>, node: u32, name: &str) -> bool
     requires tree { HasTree scan.now node }
     requires object { (node_at scan.now node).kind ≡ Kind.Object }
+    requires ascii { IsTrue (list_all is_ascii name.now) }
     ensures { (e : Extent) → (members : Entries) → NodeIs scan.now node (ObjectAt e members) → result ≡ is_one_pair (lookup name.now members) }
 {
     match scan.member(node, name) {
