@@ -6,7 +6,7 @@ ghost use Rattle.grid_exact.specs.Geometry.{Place};
 ghost use Rattle.json_scan.specs.Grammar.{Document, IsJson};
 ghost use Rattle.json_scan.specs.Tree.{Extent, Tree, ObjectAt, Entries, NodeIs, HasTree, node_at, document_tree};
 ghost use Rattle.topo_reader.specs.Sequence.{Faults};
-ghost use Rattle.topo_reader.specs.Arcs.{places_of};
+ghost use Rattle.topo_reader.specs.Arcs.{places_of, AreArcs};
 ghost use Rattle.topo_reader.specs.Reads.{header_of, map_of, topology_of};
 ghost use Rattle.topo_reader.specs.TopologyIs.{topology_read, LiesIn};
 
@@ -62,6 +62,7 @@ fn read_map(
     requires tree { HasTree scan.now node }
     requires object { (node_at scan.now node).kind ≡ Kind.Object }
     requires few_arcs { vec_len arcs ≤ 2 ^ 20 }
+    requires are_arcs { AreArcs (places_of arcs.items) }
     ensures value { (e : Extent) → (members : Entries) → NodeIs scan.now node (ObjectAt e members) → IfOk result (λ map. map_of coded (places_of arcs.items) (ObjectAt e members) members ≡ Ok map) }
     ensures fault { (e : Extent) → (members : Entries) → NodeIs scan.now node (ObjectAt e members) → IfErr result (Faults (map_of coded (places_of arcs.items) (ObjectAt e members) members)) }
 {
