@@ -1,12 +1,13 @@
 //! A topology: the map that it is, and where the value of `arcs` stands.
 
-ghost use Rattle.std.specs.Prelude.{◌≡◌, ◌≤◌, ◌<◌, ◌^◌, ℕ, Bool, List, IfOk, IfErr, length, vec_len};
+ghost use Rattle.std.specs.Prelude.{◌≡◌, ◌≤◌, ◌<◌, ◌^◌, ℕ, Bool, List, IfOk, IfErr, All, length, vec_len};
 ghost use Rattle.std.specs.Global.{Vec};
 ghost use Rattle.grid_exact.specs.Geometry.{Place};
 ghost use Rattle.json_scan.specs.Grammar.{Document, IsJson};
 ghost use Rattle.json_scan.specs.Tree.{Extent, Tree, ObjectAt, Entries, NodeIs, HasTree, node_at, document_tree};
 ghost use Rattle.topo_reader.specs.Sequence.{Faults};
 ghost use Rattle.topo_reader.specs.Arcs.{places_of, AreArcs};
+ghost use Rattle.topo_reader.specs.Ends.{HasEvenEnds};
 ghost use Rattle.topo_reader.specs.Reads.{header_of, map_of, topology_of};
 ghost use Rattle.topo_reader.specs.TopologyIs.{topology_read, LiesIn};
 
@@ -41,14 +42,9 @@ fn header(scan: &Scan<'_>, node: u32) -> Result<bool, ReadFault>
     requires object { (node_at scan.now node).kind ≡ Kind.Object }
     ensures { (e : Extent) → (members : Entries) → NodeIs scan.now node (ObjectAt e members) → result ≡ header_of (ObjectAt e members) members }
 {
-    let value = match required(scan, node, "type") {
-        Ok(value) => value,
-        Err(fault) => return Err(fault),
-    };
-    match topology_type(scan, value) {
-        Ok(_) => is_coded(scan, node),
-        Err(fault) => Err(fault),
-    }
+    let value = required(scan, node, "type")?;
+    topology_type(scan, value)?;
+    is_coded(scan, node)
 }
 
 /// Reads `objects`, into the map of these arcs.
@@ -63,6 +59,7 @@ fn read_map(
     requires object { (node_at scan.now node).kind ≡ Kind.Object }
     requires few_arcs { vec_len arcs ≤ 2 ^ 20 }
     requires are_arcs { AreArcs (places_of arcs.items) }
+    ensures even_ends { IfOk result (λ map. All (HasEvenEnds map.arcs) map.polygons) }
     ensures value { (e : Extent) → (members : Entries) → NodeIs scan.now node (ObjectAt e members) → IfOk result (λ map. map_of coded (places_of arcs.items) (ObjectAt e members) members ≡ Ok map) }
     ensures fault { (e : Extent) → (members : Entries) → NodeIs scan.now node (ObjectAt e members) → IfErr result (Faults (map_of coded (places_of arcs.items) (ObjectAt e members) members)) }
 {
@@ -79,6 +76,7 @@ fn read_object(alloc: Global, scan: &Scan<'_>, node: u32) -> Result<Topology, Re
     ensures value { (e : Extent) → (members : Entries) → NodeIs scan.now node (ObjectAt e members) → IfOk result (λ topology. topology_of (ObjectAt e members) ≡ Ok (topology_read topology)) }
     ensures fault { (e : Extent) → (members : Entries) → NodeIs scan.now node (ObjectAt e members) → IfErr result (Faults (topology_of (ObjectAt e members))) }
     ensures span { IfOk result (λ topology. LiesIn scan.now.bytes topology.arcs_at) }
+    ensures even_ends { IfOk result (λ topology. All (HasEvenEnds topology.map.arcs) topology.map.polygons) }
 {
     let coded = header(scan, node)?;
     let value = required(scan, node, "arcs")?;
@@ -99,6 +97,7 @@ pub fn read(alloc: Global, scan: &Scan<'_>) -> Result<Topology, ReadFault>
     ensures topology { (d : Document) → IsJson 64 scan.now.bytes scan.now.nodes d → IfOk result (λ topology. topology_of (document_tree d) ≡ Ok (topology_read topology)) }
     ensures fault { (d : Document) → IsJson 64 scan.now.bytes scan.now.nodes d → IfErr result (Faults (topology_of (document_tree d))) }
     ensures span { IfOk result (λ topology. LiesIn scan.now.bytes topology.arcs_at) }
+    ensures even_ends { IfOk result (λ topology. All (HasEvenEnds topology.map.arcs) topology.map.polygons) }
 {
     let count = scan.count();
     prove!(count > 0);

@@ -105,9 +105,8 @@ pub fn is_coded(scan: &Scan<'_>, node: u32) -> Result<bool, ReadFault>
     requires object { (node_at scan.now node).kind ≡ Kind.Object }
     ensures { (e : Extent) → (members : Entries) → NodeIs scan.now node (ObjectAt e members) → result ≡ coded_by (lookup (codes "transform") members) }
 {
-    match optional(scan, node, "transform") {
-        Ok(Some(value)) => transform(scan, value),
-        Ok(None) => Ok(false),
-        Err(fault) => Err(fault),
+    match optional(scan, node, "transform")? {
+        Some(value) => transform(scan, value),
+        None => Ok(false),
     }
 }
