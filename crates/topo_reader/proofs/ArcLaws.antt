@@ -1,5 +1,5 @@
 -- What holds of the arcs that are read: each is an arc, and they are within the limits.
-use Rattle.std.proofs.Common.{◌≡◌, ◌≢◌, ℕ, suc, ◌+◌, ◌-◌, ◌<◌, ◌≤◌, ◌^◌, Bool, true, false, ◌&&◌, nat_lt, Option, Some, None, List, [], ◌∷◌, ◌++◌, length, sum_by, All, Result, Ok, Err, refl, sym, ap, subst, ◌∙◌, arith}
+use Rattle.std.proofs.Common.{◌≡◌, ◌≢◌, ℕ, suc, ◌+◌, ◌-◌, ◌<◌, ◌≤◌, ◌^◌, Bool, true, false, ◌&&◌, nat_lt, Option, List, [], ◌∷◌, ◌++◌, length, sum_by, All, Result, Ok, Err, refl, sym, ap, subst, ◌∙◌, arith}
 use Rattle.std.specs.Prelude.{slice_get}
 use Rattle.std.specs.Ordering.{int_eq}
 use Rattle.std.proofs.lemmas.Bool.{cond-true, cond-false, ltb-true}
@@ -12,7 +12,6 @@ use Rattle.grid_exact.specs.Walks.{EachEdge}
 use Rattle.arc_map.specs.Map.{IsArc}
 use Rattle.json_scan.specs.Tree.{Tree, Trees, NoTrees, NextTree}
 use Rattle.topo_reader.specs.declared.fault.ReadFault.{ReadFault}
-use Rattle.topo_reader.specs.declared.fault.ReadFault.TheVariants.{TooMany}
 use Rattle.topo_reader.specs.declared.fault.What.{What}
 use Rattle.topo_reader.specs.declared.fault.What.TheVariants as what
 use Rattle.topo_reader.specs.Sequence.{and_then, counted, list_of}

@@ -1,11 +1,11 @@
 -- Geometries by their names, and collections.
 use Rattle.std.specs.Prelude.{codes}
-use Rattle.std.proofs.Common.{◌≡◌, ℕ, inl, inr, Bool, true, false, bytes_eq, List, Result, Ok, Err, IfOk, IfErr, refl, sym, ap, subst, ◌∙◌}
+use Rattle.std.proofs.Common.{◌≡◌, ℕ, Bool, true, false, bytes_eq, List, Result, Ok, Err, IfOk, IfErr, refl, sym, ap, subst, ◌∙◌}
 use Rattle.std.proofs.lemmas.Bool.{cond-true, cond-false}
 use Rattle.grid_exact.specs.Geometry.{Place}
 use Rattle.json_scan.specs.declared.node.Kind.TheVariants as kind
 use Rattle.json_scan.specs.View.{ScanView}
-use Rattle.json_scan.specs.Tree.{Extent, Tree, NullAt, FalseAt, TrueAt, NumberAt, TextAt, ListAt, ObjectAt, Trees, Entries, NoEntries, NextEntry, Lookup, NowhereIn, OnceIn, TwiceIn, named, at_first, at_second, lookup, NodeIs, node_at}
+use Rattle.json_scan.specs.Tree.{Extent, Tree, NullAt, FalseAt, TrueAt, NumberAt, TextAt, ListAt, ObjectAt, Entries, NoEntries, NextEntry, Lookup, NowhereIn, OnceIn, TwiceIn, named, at_first, at_second, lookup, NodeIs, node_at}
 use Rattle.topo_reader.specs.declared.fault.ReadFault.{ReadFault}
 use Rattle.topo_reader.specs.declared.geometry.Geometry.{Geometry}
 use Rattle.topo_reader.specs.Sequence.{and_then, at_found, list_of, required, Faults, GivesNode}
@@ -101,6 +101,6 @@ collection-is s k holder arcs seen members gives =
       found.0,
       found.2,
       ap (λ (l : Lookup). and_then (at_found holder l) (λ value. collection_of arcs members seen)) found.1
-      ∙ collection-once arcs seen found.0 members found.1
-      ∙ list-first arcs seen found.0,
+          ∙ collection-once arcs seen found.0 members found.1
+          ∙ list-first arcs seen found.0,
     )

@@ -1,5 +1,5 @@
 -- The ends of the arcs of a ring meet in pairs: each position is an even number of times an end.
-use Rattle.std.proofs.Common.{◌≡◌, ℕ, ◌+◌, ◌-◌, ◌<◌, ◌%◌, ◌^◌, Bool, true, false, ◌&&◌, Option, Some, None, List, [], ◌∷◌, ◌++◌, length, get_or, All, Result, Ok, Err, pos, negsuc, cond, refl, sym, ap, subst, ◌∙◌, arith}
+use Rattle.std.proofs.Common.{◌≡◌, ℕ, ◌+◌, ◌-◌, ◌<◌, ◌%◌, ◌^◌, Bool, true, false, ◌&&◌, Option, Some, None, List, [], ◌∷◌, ◌++◌, length, get_or, All, Ok, pos, negsuc, cond, refl, sym, ap, subst, ◌∙◌, arith}
 use Rattle.std.specs.Prelude.{slice_get, option_map}
 use Rattle.std.specs.Ordering.{int_eq}
 use Rattle.std.proofs.Math.Nat.{add_comm}
@@ -11,7 +11,6 @@ use Rattle.grid_exact.specs.Geometry.{Place}
 use Rattle.arc_map.specs.Map.{IsArc}
 use Rattle.json_scan.specs.declared.whole.Whole.TheVariants as whole
 use Rattle.json_scan.specs.Tree.{Tree, NullAt, FalseAt, TrueAt, NumberAt, TextAt, ListAt, ObjectAt, Trees, NoTrees, NextTree}
-use Rattle.topo_reader.specs.declared.fault.ReadFault.{ReadFault}
 use Rattle.topo_reader.specs.declared.fault.What.TheVariants as what
 use Rattle.topo_reader.specs.declared.line.Step.{Step}
 use Rattle.topo_reader.specs.Sequence.{and_then, list_of}

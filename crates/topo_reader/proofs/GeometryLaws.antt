@@ -1,16 +1,14 @@
 -- What holds of the points and polygons that are read: they are within the limits, and polygons name arcs.
 use Rattle.std.specs.Prelude.{codes}
-use Rattle.std.proofs.Common.{◌≡◌, ℕ, ◌+◌, ◌<◌, ◌≤◌, ◌^◌, Bool, true, false, bytes_eq, Option, Some, None, List, [], ◌∷◌, ◌++◌, length, sum_by, All, Result, Ok, Err, ℤ, pos, negsuc, cond, refl, sym, ap, subst, ◌∙◌, arith}
+use Rattle.std.proofs.Common.{◌≡◌, ℕ, ◌+◌, ◌<◌, ◌≤◌, ◌^◌, Bool, true, false, bytes_eq, Option, Some, None, List, [], ◌∷◌, ◌++◌, length, sum_by, All, Result, Ok, pos, negsuc, cond, refl, ap, subst, arith}
 use Rattle.std.specs.Prelude.{slice_get, option_map}
-use Rattle.std.proofs.lemmas.Bool.{cond-true, cond-false}
 use Rattle.std.proofs.lemmas.Option.{slice_get_within}
 use Rattle.std.proofs.lemmas.List.{length-append}
 use Rattle.std.proofs.lemmas.List.Elements.{All-nil, All-push}
 use Rattle.std.proofs.lemmas.List.Sums.{sum_by_push}
 use Rattle.grid_exact.specs.Geometry.{Place}
-use Rattle.json_scan.specs.declared.whole.Whole.{Whole}
 use Rattle.json_scan.specs.declared.whole.Whole.TheVariants as whole
-use Rattle.json_scan.specs.Tree.{Extent, Tree, NullAt, FalseAt, TrueAt, NumberAt, TextAt, ListAt, ObjectAt, Trees, NoTrees, NextTree, Entries, NoEntries, NextEntry}
+use Rattle.json_scan.specs.Tree.{Tree, NullAt, FalseAt, TrueAt, NumberAt, TextAt, ListAt, ObjectAt, Trees, NoTrees, NextTree, Entries, NoEntries, NextEntry}
 use Rattle.topo_reader.specs.declared.fault.ReadFault.{ReadFault}
 use Rattle.topo_reader.specs.declared.fault.What.TheVariants as what
 use Rattle.topo_reader.specs.declared.line.Step.{Step}

@@ -2,7 +2,7 @@
 use Rattle.std.proofs.Common.{◌≡◌, inl, inr, ℕ, ◌<◌, ◌≤◌, nat_lt, Result, Ok, Err, refl, sym, ap, subst, ◌∙◌}
 use Rattle.std.proofs.lemmas.Bool.{cond-true, cond-false, lt-ltb, le-ltb}
 use Rattle.json_scan.specs.View.{ScanView}
-use Rattle.json_scan.specs.Tree.{Tree, Trees, NoTrees, NextTree, NodeIs, NodesAre, node_at, after_at, place_of}
+use Rattle.json_scan.specs.Tree.{Tree, Trees, NoTrees, NextTree, NodeIs, NodesAre, after_at, place_of}
 use Rattle.json_scan.specs.Finds.{HasItems}
 use Rattle.json_scan.proofs.Items.{item-here, no_item, next-items, has-next}
 use Rattle.topo_reader.specs.declared.fault.ReadFault.{ReadFault}

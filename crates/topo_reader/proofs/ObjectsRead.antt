@@ -1,12 +1,11 @@
 -- What comes of the members of an Object, one after another.
-use Rattle.std.proofs.Common.{◌≡◌, ℕ, ◌+◌, ◌<◌, List, Result, Ok, Err, refl, sym, ap, subst, ◌∙◌}
-use Rattle.grid_exact.specs.Geometry.{Place}
+use Rattle.std.proofs.Common.{◌≡◌, ℕ, ◌+◌, List, Result, refl, sym, ap, subst, ◌∙◌}
 use Rattle.json_scan.specs.View.{ScanView}
 use Rattle.json_scan.specs.Tree.{Extent, Tree, Entries, NoEntries, NextEntry, NodeIs, EntriesAre, HasTree, after_at}
 use Rattle.json_scan.specs.Finds.{HasEntries}
 use Rattle.json_scan.proofs.Members.{IsEntry, entry-here, entries-rise, no_entry, below}
 use Rattle.topo_reader.specs.declared.fault.ReadFault.{ReadFault}
-use Rattle.topo_reader.specs.Sequence.{and_then, Faults}
+use Rattle.topo_reader.specs.Sequence.{Faults}
 
 -- what comes of the members from one number on comes of those from another on
 pub record MembersGoOn {A : Type 0} (s : ScanView) (from at end : ℕ) (before now : Entries → Result A ReadFault) : Type 0 where

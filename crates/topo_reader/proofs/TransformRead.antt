@@ -1,19 +1,18 @@
 -- A transform by its nodes.
 use Rattle.std.specs.Prelude.{codes}
-use Rattle.std.proofs.Common.{◌≡◌, ℕ, ◌<◌, Bool, true, false, ◌&&◌, Option, Some, None, Result, Ok, Err, length, refl, sym, ap, cond, ◌∙◌}
+use Rattle.std.proofs.Common.{◌≡◌, ℕ, Bool, true, false, ◌&&◌, Some, None, Result, Ok, Err, refl, sym, ap, ◌∙◌}
 use Rattle.std.proofs.lemmas.Bool.{cond-true, cond-false}
 use Rattle.json_scan.specs.declared.node.Kind.TheVariants as kind
-use Rattle.json_scan.specs.declared.view.Found.{Found}
 use Rattle.json_scan.specs.declared.view.Found.TheVariants.{Absent, Once, Twice}
 use Rattle.json_scan.specs.View.{ScanView}
-use Rattle.json_scan.specs.Tree.{Extent, Tree, ObjectAt, Trees, NoTrees, NextTree, Entries, Lookup, lookup, NowhereIn, OnceIn, TwiceIn, NodeIs, NodesAre, HasTree, node_at, after_at, place_of}
-use Rattle.json_scan.specs.Finds.{Finds, HasItems}
-use Rattle.json_scan.proofs.Nodes.{tree-node, node-lies}
-use Rattle.json_scan.proofs.Items.{item-here, no_item, next-items, has-next, item-tree}
+use Rattle.json_scan.specs.Tree.{Extent, Tree, ObjectAt, Trees, NextTree, Entries, Lookup, lookup, NowhereIn, OnceIn, TwiceIn, NodeIs, NodesAre, node_at, after_at}
+use Rattle.json_scan.specs.Finds.{Finds}
+use Rattle.json_scan.proofs.Nodes.{tree-node}
+use Rattle.json_scan.proofs.Items.{item-here, no_item, next-items}
 use Rattle.topo_reader.specs.declared.fault.ReadFault.{ReadFault}
 use Rattle.topo_reader.specs.declared.fault.ReadFault.TheVariants.{Shape}
 use Rattle.topo_reader.specs.declared.fault.ShapeKind.TheVariants as shape
-use Rattle.topo_reader.specs.Sequence.{wrong, GivesMember}
+use Rattle.topo_reader.specs.Sequence.{GivesMember}
 use Rattle.topo_reader.specs.Reads.{is_number, are_two_numbers, is_pair, is_one_pair, has_both_pairs, transform_of, coded_by}
 use Rattle.topo_reader.proofs.MembersRead.{object-here}
 

@@ -8,7 +8,8 @@ use std::alloc::Global;
 use std::test::*;
 
 /// Two provinces with towns, names, a `bbox` and a fractional transform.
-const PROVINCES: &str = r#"{"type":"Topology","bbox":[-180,-90,-179.712,-89.856],"transform":{"scale":[0.036,0.018],"translate":[-180,-90]},"objects":{"provinces":{"type":"GeometryCollection","geometries":[{"type":"Polygon","properties":{"name":"West"},"arcs":[[0,1]]},{"type":"Polygon","properties":{"name":"East"},"arcs":[[2,-1]]}]},"towns":{"type":"MultiPoint","coordinates":[[2,4],[7,4]]}},"arcs":[[[4,0],[1,2],[-2,2],[2,2],[-1,2]],[[4,8],[-4,0],[0,-8],[4,0]],[[4,0],[4,0],[0,8],[-4,0]]]}"#;
+const PROVINCES: &str =
+    r#"{"type":"Topology","bbox":[-180,-90,-179.712,-89.856],"transform":{"scale":[0.036,0.018],"translate":[-180,-90]},"objects":{"provinces":{"type":"GeometryCollection","geometries":[{"type":"Polygon","properties":{"name":"West"},"arcs":[[0,1]]},{"type":"Polygon","properties":{"name":"East"},"arcs":[[2,-1]]}]},"towns":{"type":"MultiPoint","coordinates":[[2,4],[7,4]]}},"arcs":[[[4,0],[1,2],[-2,2],[2,2],[-1,2]],[[4,8],[-4,0],[0,-8],[4,0]],[[4,0],[4,0],[0,8],[-4,0]]]}"#;
 
 /// The topology of a short text, or its fault, if the text is JSON.
 fn reading(alloc: Global, text: &str) -> Option<Result<Topology, ReadFault>> {
@@ -66,7 +67,13 @@ fn reads_two_provinces(rt: HostRuntime) {
     assert_eq!(&rt; map.polygon_count(), 2);
     assert!(&rt; is_polygon(map, 0, &[0, 1]));
     assert!(&rt; is_polygon(map, 1, &[2, 0]));
-    assert_eq!(&rt; topology.arcs_at, Span { start: 374, end: 464 });
+    assert_eq!(&rt;
+        topology.arcs_at,
+        Span {
+            start: 374,
+            end: 464
+        }
+    );
 }
 
 #[test]
@@ -76,30 +83,126 @@ fn names_the_first_shape_fault(rt: HostRuntime) {
         (r#"{"objects":{},"arcs":[]}"#, ShapeKind::Missing, 0),
         (r#"{"type":"Topology","objects":{}}"#, ShapeKind::Missing, 0),
         (r#"{"type":"Topology","arcs":[]}"#, ShapeKind::Missing, 0),
-        (r#"{"type":"Topology","objects":{},"type":"Topology","arcs":[]}"#, ShapeKind::Twice, 32),
-        (r#"{"type":"Topology","transform":null,"\u0074ransform":null,"objects":{},"arcs":[]}"#, ShapeKind::Twice, 36),
-        (r#"{"type":"topology","objects":{},"arcs":[]}"#, ShapeKind::WrongType, 8),
-        (r#"{"type":"Topology","objects":{},"arcs":{}}"#, ShapeKind::WrongType, 39),
-        (r#"{"type":"Topology","objects":{},"arcs":[7]}"#, ShapeKind::WrongType, 40),
-        (r#"{"type":"Topology","objects":{},"arcs":[[7,[0,0]]]}"#, ShapeKind::WrongType, 41),
-        (r#"{"type":"Topology","objects":{},"arcs":[[[0,0],[0]]]}"#, ShapeKind::WrongType, 47),
-        (r#"{"type":"Topology","objects":{},"arcs":[[[0,"0"],[0,0]]]}"#, ShapeKind::WrongType, 44),
-        (r#"{"type":"Topology","objects":[],"arcs":[]}"#, ShapeKind::WrongType, 29),
-        (r#"{"type":"Topology","objects":{"a":[]},"arcs":[[[0,0],[3,0]]]}"#, ShapeKind::WrongType, 34),
-        (r#"{"type":"Topology","objects":{"a":{"type":"MultiPolygon","arcs":[7]}},"arcs":[[[0,0],[3,0]]]}"#, ShapeKind::WrongType, 65),
-        (r#"{"type":"Topology","objects":{"a":{"type":"LineString","arcs":[null]}},"arcs":[[[0,0],[3,0]]]}"#, ShapeKind::WrongType, 63),
-        (r#"{"type":"Topology","objects":{},"arcs":[[[0,0]]]}"#, ShapeKind::ShortArc, 40),
-        (r#"{"type":"Topology","transform":{"scale":[1,1]},"objects":{},"arcs":[]}"#, ShapeKind::BadTransform, 31),
-        (r#"{"type":"Topology","transform":{"scale":[1,1],"scale":[1,1],"translate":[0,0]},"objects":{},"arcs":[]}"#, ShapeKind::BadTransform, 31),
-        (r#"{"type":"Topology","transform":{"scale":[1,1],"translate":[0,0,0]},"objects":{},"arcs":[]}"#, ShapeKind::BadTransform, 31),
-        (r#"{"type":"Topology","objects":{"a":{"type":"LineString","arcs":[1]}},"arcs":[[[0,0],[3,0]]]}"#, ShapeKind::BadArcIndex, 63),
-        (r#"{"type":"Topology","objects":{"a":{"type":"LineString","arcs":[-2]}},"arcs":[[[0,0],[3,0]]]}"#, ShapeKind::BadArcIndex, 63),
-        (r#"{"type":"Topology","objects":{"a":{"type":"LineString","arcs":[0.5]}},"arcs":[[[0,0],[3,0]]]}"#, ShapeKind::BadArcIndex, 63),
-        (r#"{"type":"Topology","objects":{"a":{"type":"LineString","arcs":[0,-2]}},"arcs":[[[0,0],[3,0]],[[3,0],[3,3]]]}"#, ShapeKind::Unjoined, 65),
-        (r#"{"type":"Topology","objects":{"a":{"type":"Polygon","arcs":[[0]]}},"arcs":[[[0,0],[3,0]]]}"#, ShapeKind::OpenRing, 60),
-        (r#"{"type":"Topology","objects":{"a":{"type":"Feature"}},"arcs":[[[0,0],[3,0]]]}"#, ShapeKind::UnknownGeometry, 42),
-        (r#"{"type":"Topology","objects":{"a":{"type":"GeometryCollection","geometries":[{"type":null},{"type":7}]}},"arcs":[[[0,0],[3,0]]]}"#, ShapeKind::UnknownGeometry, 99),
-        (r#"{"type":"Topology","objects":{"a":{"type":"Point"}},"arcs":[[[0,0],[3,0]]]}"#, ShapeKind::Missing, 34),
+        (
+            r#"{"type":"Topology","objects":{},"type":"Topology","arcs":[]}"#,
+            ShapeKind::Twice,
+            32,
+        ),
+        (
+            r#"{"type":"Topology","transform":null,"\u0074ransform":null,"objects":{},"arcs":[]}"#,
+            ShapeKind::Twice,
+            36,
+        ),
+        (
+            r#"{"type":"topology","objects":{},"arcs":[]}"#,
+            ShapeKind::WrongType,
+            8,
+        ),
+        (
+            r#"{"type":"Topology","objects":{},"arcs":{}}"#,
+            ShapeKind::WrongType,
+            39,
+        ),
+        (
+            r#"{"type":"Topology","objects":{},"arcs":[7]}"#,
+            ShapeKind::WrongType,
+            40,
+        ),
+        (
+            r#"{"type":"Topology","objects":{},"arcs":[[7,[0,0]]]}"#,
+            ShapeKind::WrongType,
+            41,
+        ),
+        (
+            r#"{"type":"Topology","objects":{},"arcs":[[[0,0],[0]]]}"#,
+            ShapeKind::WrongType,
+            47,
+        ),
+        (
+            r#"{"type":"Topology","objects":{},"arcs":[[[0,"0"],[0,0]]]}"#,
+            ShapeKind::WrongType,
+            44,
+        ),
+        (
+            r#"{"type":"Topology","objects":[],"arcs":[]}"#,
+            ShapeKind::WrongType,
+            29,
+        ),
+        (
+            r#"{"type":"Topology","objects":{"a":[]},"arcs":[[[0,0],[3,0]]]}"#,
+            ShapeKind::WrongType,
+            34,
+        ),
+        (
+            r#"{"type":"Topology","objects":{"a":{"type":"MultiPolygon","arcs":[7]}},"arcs":[[[0,0],[3,0]]]}"#,
+            ShapeKind::WrongType,
+            65,
+        ),
+        (
+            r#"{"type":"Topology","objects":{"a":{"type":"LineString","arcs":[null]}},"arcs":[[[0,0],[3,0]]]}"#,
+            ShapeKind::WrongType,
+            63,
+        ),
+        (
+            r#"{"type":"Topology","objects":{},"arcs":[[[0,0]]]}"#,
+            ShapeKind::ShortArc,
+            40,
+        ),
+        (
+            r#"{"type":"Topology","transform":{"scale":[1,1]},"objects":{},"arcs":[]}"#,
+            ShapeKind::BadTransform,
+            31,
+        ),
+        (
+            r#"{"type":"Topology","transform":{"scale":[1,1],"scale":[1,1],"translate":[0,0]},"objects":{},"arcs":[]}"#,
+            ShapeKind::BadTransform,
+            31,
+        ),
+        (
+            r#"{"type":"Topology","transform":{"scale":[1,1],"translate":[0,0,0]},"objects":{},"arcs":[]}"#,
+            ShapeKind::BadTransform,
+            31,
+        ),
+        (
+            r#"{"type":"Topology","objects":{"a":{"type":"LineString","arcs":[1]}},"arcs":[[[0,0],[3,0]]]}"#,
+            ShapeKind::BadArcIndex,
+            63,
+        ),
+        (
+            r#"{"type":"Topology","objects":{"a":{"type":"LineString","arcs":[-2]}},"arcs":[[[0,0],[3,0]]]}"#,
+            ShapeKind::BadArcIndex,
+            63,
+        ),
+        (
+            r#"{"type":"Topology","objects":{"a":{"type":"LineString","arcs":[0.5]}},"arcs":[[[0,0],[3,0]]]}"#,
+            ShapeKind::BadArcIndex,
+            63,
+        ),
+        (
+            r#"{"type":"Topology","objects":{"a":{"type":"LineString","arcs":[0,-2]}},"arcs":[[[0,0],[3,0]],[[3,0],[3,3]]]}"#,
+            ShapeKind::Unjoined,
+            65,
+        ),
+        (
+            r#"{"type":"Topology","objects":{"a":{"type":"Polygon","arcs":[[0]]}},"arcs":[[[0,0],[3,0]]]}"#,
+            ShapeKind::OpenRing,
+            60,
+        ),
+        (
+            r#"{"type":"Topology","objects":{"a":{"type":"Feature"}},"arcs":[[[0,0],[3,0]]]}"#,
+            ShapeKind::UnknownGeometry,
+            42,
+        ),
+        (
+            r#"{"type":"Topology","objects":{"a":{"type":"GeometryCollection","geometries":[{"type":null},{"type":7}]}},"arcs":[[[0,0],[3,0]]]}"#,
+            ShapeKind::UnknownGeometry,
+            99,
+        ),
+        (
+            r#"{"type":"Topology","objects":{"a":{"type":"Point"}},"arcs":[[[0,0],[3,0]]]}"#,
+            ShapeKind::Missing,
+            34,
+        ),
     ] {
         let want = Some(ReadFault::Shape { kind, at });
         assert_eq!(&rt; fault_of(rt.alloc(), text), want, "of {text}");
@@ -109,11 +212,31 @@ fn names_the_first_shape_fault(rt: HostRuntime) {
 #[test]
 fn names_the_first_number_off(rt: HostRuntime) {
     for (text, kind, at) in [
-        (r#"{"type":"Topology","objects":{},"arcs":[[[0,0],[1.5,0]]]}"#, OffKind::NotWhole, 48),
-        (r#"{"type":"Topology","objects":{},"arcs":[[[0,0],[536870913,0]]]}"#, OffKind::OffGrid, 48),
-        (r#"{"type":"Topology","objects":{},"arcs":[[[0,0],[0,-1099511627777]]]}"#, OffKind::OffGrid, 50),
-        (r#"{"type":"Topology","transform":{"scale":[0.5,0.5],"translate":[0,0]},"objects":{},"arcs":[[[536870912,0],[1,0]]]}"#, OffKind::OffGrid, 106),
-        (r#"{"type":"Topology","objects":{"a":{"type":"MultiPoint","coordinates":[[1,2],[1,2,3]]}},"arcs":[[[0,0],[3,0]]]}"#, OffKind::Extra, 81),
+        (
+            r#"{"type":"Topology","objects":{},"arcs":[[[0,0],[1.5,0]]]}"#,
+            OffKind::NotWhole,
+            48,
+        ),
+        (
+            r#"{"type":"Topology","objects":{},"arcs":[[[0,0],[536870913,0]]]}"#,
+            OffKind::OffGrid,
+            48,
+        ),
+        (
+            r#"{"type":"Topology","objects":{},"arcs":[[[0,0],[0,-1099511627777]]]}"#,
+            OffKind::OffGrid,
+            50,
+        ),
+        (
+            r#"{"type":"Topology","transform":{"scale":[0.5,0.5],"translate":[0,0]},"objects":{},"arcs":[[[536870912,0],[1,0]]]}"#,
+            OffKind::OffGrid,
+            106,
+        ),
+        (
+            r#"{"type":"Topology","objects":{"a":{"type":"MultiPoint","coordinates":[[1,2],[1,2,3]]}},"arcs":[[[0,0],[3,0]]]}"#,
+            OffKind::Extra,
+            81,
+        ),
     ] {
         let want = Some(ReadFault::Off { kind, at });
         assert_eq!(&rt; fault_of(rt.alloc(), text), want, "of {text}");

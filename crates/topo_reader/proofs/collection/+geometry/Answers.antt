@@ -1,8 +1,7 @@
-use Rattle.std.proofs.Common.{◌≡◌, refl, Result, Ok, IfOk, IfErr, sym, ap, subst, ◌∙◌, arith}
+use Rattle.std.proofs.Common.{◌≡◌, refl, Result, Ok, IfOk, IfErr, sym, ap, subst, arith}
 use Rattle.json_scan.specs.declared.node.Node.{Node}
 use Rattle.json_scan.specs.Tree.{ObjectAt}
-use Rattle.json_scan.proofs.Nodes.{node-lies}
-use Rattle.json_scan.proofs.Items.{item-here, item-tree}
+use Rattle.json_scan.proofs.Items.{item-here}
 use Rattle.topo_reader.specs.declared.fault.ReadFault.{ReadFault}
 use Rattle.topo_reader.specs.Sequence.{Faults, list_of}
 use Rattle.topo_reader.specs.Arcs.{places_of}
@@ -10,7 +9,7 @@ use Rattle.topo_reader.specs.Geometries.{Seen, geometry_of, geometries_of}
 use Rattle.topo_reader.specs.SeenSoFar.{seen_of}
 use Rattle.topo_reader.proofs.Goes.{goes-step, goes-faults, goes-ends, items-next, items-fault}
 use Rattle.topo_reader.proofs.Gives.{passes, no-items, with-items-ok, with-items-err}
-use Rattle.topo_reader.proofs.Collections.{geometry-ok, geometry-err, header-fault, collection-is}
+use Rattle.topo_reader.proofs.Collections.{geometry-ok, geometry-err, collection-is}
 use Rattle.topo_reader.proofs.collection.+geometry.Goals as goal
 
 pub geometry-returns-clause-value : goal.geometry-returns-clause-value

@@ -1,4 +1,4 @@
-use Rattle.std.proofs.Common.{ap, ◌∙◌}
+use Rattle.std.proofs.Common.{ap}
 use Rattle.json_scan.specs.declared.node.Node.{Node}
 use Rattle.json_scan.specs.Tree.{lookup}
 use Rattle.topo_reader.proofs.MembersRead.{member-absent, member-once, member-twice, twice-within, once-tree, object-here}
