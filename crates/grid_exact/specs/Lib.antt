@@ -3,6 +3,7 @@ pub mod Frame
 pub mod Paths
 pub mod Segments
 pub mod Walks
+pub mod Runs
 pub mod Crossing
 pub mod Spans
 pub mod Clash

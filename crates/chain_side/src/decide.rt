@@ -1,0 +1,48 @@
+//! The side of a point: the edge that spans it decides.
+ghost use Rattle.std.specs.Prelude.{◌≡◌, ◌↔◌, ◌*ℤ◌, ◌≤◌, ◌^◌, unsigned_abs};
+ghost use Rattle.chain_side.specs.Sides.{IsMonotoneChain, IsSideOfChain, IsSideOfEdge, IsSideBySign};
+
+use crate::search::{comes_before, edge_at, precedes};
+use crate::sides::Side;
+use grid_exact::{Frame, Point, area};
+
+/// The side of the chain on which p lies.
+pub fn side(chain: &[Point], frame: Frame, p: Point) -> Side
+    requires { IsMonotoneChain frame chain.now }
+    ensures { (side : Side) → (result ≡ side) ↔ IsSideOfChain frame chain.now p side }
+{
+    let first = chain[0];
+    let last = chain[chain.len() - 1];
+    let rising = precedes(frame, first, last);
+    if comes_before(frame, rising, p, first) || comes_before(frame, rising, last, p) {
+        return Side::Outside;
+    }
+    let at = edge_at(chain, frame, rising, p);
+    if rising {
+        side_of_edge(frame, chain[at], chain[at + 1], p)
+    } else {
+        side_of_edge(frame, chain[at + 1], chain[at], p)
+    }
+}
+
+// The side of the edge ab, a before b in the frame's order, on which a point between the two lies.
+fn side_of_edge(frame: Frame, a: Point, b: Point, p: Point) -> Side
+    ensures { IsSideOfEdge frame a b p result }
+{
+    match frame {
+        Frame::Plain => side_by_sign(area(a, b, p)),
+        Frame::Turned => side_by_sign(area(b, a, p)),
+    }
+}
+
+fn side_by_sign(left: i64) -> Side
+    ensures { IsSideBySign left result }
+{
+    if left > 0 {
+        Side::Above
+    } else if left < 0 {
+        Side::Below
+    } else {
+        Side::On
+    }
+}
