@@ -1,5 +1,5 @@
 -- The order along a chain is strict and total, and a place that is past both ends of an edge is not on it.
-use Rattle.std.proofs.Common.{◌≡◌, ◌⊎◌, inl, inr, Bool, true, false, [], ◌∷◌, ℤ, pos, negsuc, ◌+ℤ◌, ◌-ℤ◌, ◌*ℤ◌, ◌≤ℤ◌, refl, ap, arith}
+use Rattle.std.proofs.Common.{◌≡◌, Bool, true, false, [], ◌∷◌, ℤ, pos, negsuc, ◌+ℤ◌, ◌-ℤ◌, ◌*ℤ◌, ◌≤ℤ◌, refl, ap, arith}
 use Rattle.grid_exact.specs.Geometry.{Place, turned, area_of, IsBefore, IsOnSegment}
 use Rattle.grid_exact.specs.Spans.{IsUpTo}
 use Rattle.grid_exact.specs.declared.frame.Frame.{Frame}

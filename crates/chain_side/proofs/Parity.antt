@@ -1,5 +1,5 @@
 -- Sides and crossings: a walk that runs one way is crossed once from below it, and not at all from elsewhere.
-use Rattle.std.proofs.Common.{◌≡◌, ◌↔◌, inl, inr, Bool, true, false, List, [], ◌∷◌, ◌++◌, ℤ, pos, int_lt, refl, sym, ap, subst, ◌∙◌, append_assoc, arith}
+use Rattle.std.proofs.Common.{◌≡◌, ◌↔◌, inl, inr, Bool, true, false, List, [], ◌∷◌, ◌++◌, pos, refl, sym, ap, subst, ◌∙◌, append_assoc, arith}
 use Rattle.grid_exact.specs.Geometry.{Place, turned, area_of, IsOnSegment}
 use Rattle.grid_exact.specs.Crossing.{is_crossed, is_crossed_sideways}
 use Rattle.grid_exact.specs.Walks.{EachEdge, end_of, count_edges, is_odd, differ, IsOff}
@@ -19,8 +19,8 @@ use Rattle.chain_side.specs.Along.{IsAlong}
 use Rattle.chain_side.specs.Sides.{IsAboveEdge, IsBelowEdge, IsOutside, SpanningEdge, EdgeUnder, IsSideOf}
 use Rattle.chain_side.specs.Laws.{SidesTellCrossings}
 use Rattle.chain_side.proofs.AlongOrder.{then_along, IsPassed, Ahead, Behind}
-use Rattle.chain_side.proofs.Passed.{edge_has, ahead_from, behind_edge}
-use Rattle.chain_side.proofs.Told.{Way, way_of, ends_rise, SpannedAlong, HasEnds, Forwards, Backwards, spanned_along, outside_passed, outside_spans_none}
+use Rattle.chain_side.proofs.Passed.{ahead_from, behind_edge}
+use Rattle.chain_side.proofs.Told.{way_of, ends_rise, HasEnds, Forwards, Backwards, spanned_along, outside_passed, outside_spans_none}
 
 -- ---- crossings as they are seen in a frame
 

@@ -1,5 +1,5 @@
 -- Each place has one side of a chain, and the edge that it has come to tells which.
-use Rattle.std.proofs.Common.{◌≡◌, ◌⊎◌, ◌↔◌, inl, inr, ℕ, ◌+◌, ◌-◌, ◌<◌, ◌≤◌, Bool, true, false, IsTrue, List, [], ◌∷◌, length, ℤ, pos, ◌<ℤ◌, refl, sym, ap, ◌∙◌, subst, arith}
+use Rattle.std.proofs.Common.{◌≡◌, ◌⊎◌, ◌↔◌, inl, inr, ℕ, ◌+◌, ◌-◌, ◌<◌, ◌≤◌, Bool, true, false, IsTrue, List, [], ◌∷◌, length, pos, refl, sym, ap, ◌∙◌, subst, arith}
 use Rattle.grid_exact.specs.Geometry.{Place, area_of, IsOnSegment}
 use Rattle.grid_exact.specs.Frame.{IsBeforeIn}
 use Rattle.grid_exact.specs.Walks.{EachEdge, end_of}
@@ -16,7 +16,7 @@ use Rattle.chain_side.specs.declared.sides.Side.TheVariants.{Above, On, Below, O
 use Rattle.chain_side.specs.Along.{IsAlong, vertex_at}
 use Rattle.chain_side.specs.Sides.{IsMonotoneChain, IsAboveEdge, IsBelowEdge, IsOutside, SpanningEdge, EdgeUnder, IsSideOf, IsSideOfChain, IsSideOfEdge}
 use Rattle.chain_side.specs.Sides.IsOutside.{Before as OutsideBefore, After as OutsideAfter}
-use Rattle.chain_side.proofs.AlongOrder.{ComparedAlong, Earlier, There, Later, compared_along, then_along, one_way, IsPassed, passed_off, spanned_not_passed, on_along}
+use Rattle.chain_side.proofs.AlongOrder.{Earlier, There, Later, compared_along, then_along, one_way, IsPassed, passed_off, spanned_not_passed, on_along}
 use Rattle.chain_side.proofs.Passed.{edge_has, ahead_from, behind_to, others_passed, edge_by_number, vertex_at-last}
 
 -- ---- which way a chain runs
