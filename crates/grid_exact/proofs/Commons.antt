@@ -140,8 +140,8 @@ none_below_one = omega (arith, ints)
 pub itself : (n : ℤ) → n ≤ℤ n
 itself n = omega (arith, ints)
 
-pub one_above : (n : ℤ) → pos 1 ≤ℤ n → pos 0 ≤ℤ n
-one_above n h = omega (arith, ints)
+pub nonnegative_by_one : (n : ℤ) → pos 1 ≤ℤ n → pos 0 ≤ℤ n
+nonnegative_by_one n h = omega (arith, ints)
 
 abbrev pub common_at_start : (a b c d : Place) → IsOnSegment c d a → CommonPoint a b c d
 common_at_start a b c d h =
@@ -151,7 +151,7 @@ common_at_start a b c d h =
       second = h.numerator;
       whole = h.whole;
       first_low = none_low;
-      first_high = one_above h.denominator h.whole;
+      first_high = nonnegative_by_one h.denominator h.whole;
       second_low = h.from_start;
       second_high = h.to_end;
       across = start_way h.denominator h.numerator a.x b.x c.x d.x h.across;
@@ -165,7 +165,7 @@ common_at_end a b c d h =
       first = h.denominator;
       second = h.numerator;
       whole = h.whole;
-      first_low = one_above h.denominator h.whole;
+      first_low = nonnegative_by_one h.denominator h.whole;
       first_high = itself h.denominator;
       second_low = h.from_start;
       second_high = h.to_end;

@@ -1,6 +1,8 @@
 -- The order of places that compares x, then y, and what two edges after one another share.
-use Rattle.std.proofs.Common.{◌≡◌, inl, inr, true, false, [], ◌∷◌, ℤ, pos, negsuc, ◌+ℤ◌, ◌-ℤ◌, ◌*ℤ◌, ◌≤ℤ◌, ◌<ℤ◌, int_lt, int_le, refl, sym, ap, subst, ◌∙◌, arith}
-use Rattle.std.proofs.lemmas.Int.{ints}
+use Rattle.std.proofs.Common.{◌≡◌, inl, inr, true, false, [], ◌∷◌, ℤ, pos, negsuc, ◌+ℤ◌, ◌-ℤ◌, ◌*ℤ◌, ◌≤ℤ◌, ◌<ℤ◌, int_lt, int_le, refl, sym, ap, subst, ◌∙◌, arith, ◌↔◌, IsTrue, FitsSigned, to_z, of_z}
+use Rattle.std.proofs.lemmas.Int.{ints, to_z-of_z}
+use Rattle.std.specs.Int.Signed.{lt_z}
+use mir.Syntax.{Width}
 use Rattle.grid_exact.specs.Geometry.{Place, area_of, IsBefore, IsBetween, IsOnSegment, CommonPoint}
 use Rattle.grid_exact.specs.Geometry.IsBefore.{Left, Below}
 use Rattle.grid_exact.specs.Geometry.IsBetween.{Rising, Falling}
@@ -41,6 +43,13 @@ one_side z other = elim (sign_of z) [ Negative h ↦ simp (lt_yes z (pos 0) h, l
 
 pub opposite_sides : (y z : ℤ) → z ≡ pos 0 -ℤ y → int_lt y (pos 0) ≡ int_lt (pos 0) z
 opposite_sides y z e = elim (at_most_or_above (pos 0) y) [ inl h ↦ lt_no y (pos 0) h ∙ sym (lt_no (pos 0) z (omega (arith, sums))) | inr h ↦ lt_yes y (pos 0) h ∙ sym (lt_yes (pos 0) z (omega (arith, sums))) ]
+
+-- what a test of two numbers in the code says, where these fit and are known
+pub below_tested : {P : Type 0} (w : Width) (a b a' b' : ℤ) → FitsSigned w a → FitsSigned w b → a ≡ a' → b ≡ b' → ((a' <ℤ b') ↔ P) → IsTrue (lt_z (to_z w (of_z w a)) (to_z w (of_z w b))) ↔ P
+below_tested w a b a' b' f g p q both =
+    let x : to_z w (of_z w a) ≡ a' = to_z-of_z w a f ∙ p in
+    let y : to_z w (of_z w b) ≡ b' = to_z-of_z w b g ∙ q in
+    (λ t. both.0 (omega (arith, ints, t)), λ h. let k : a' <ℤ b' = both.1 h in grind (arith, ints))
 
 -- ---- the order of two and of three places
 

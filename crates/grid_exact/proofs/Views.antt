@@ -28,7 +28,7 @@ abbrev pub common_turned : (a b c d : Place) → CommonPoint a b c d → CommonP
 common_turned a b c d h =
     record { denominator = h.denominator; first = h.first; second = h.second; whole = h.whole; first_low = h.first_low; first_high = h.first_high; second_low = h.second_low; second_high = h.second_high; across = h.up; up = h.across }
 
-common_turned_back : (a b c d : Place) → CommonPoint (turned a) (turned b) (turned c) (turned d) → CommonPoint a b c d
+pub common_turned_back : (a b c d : Place) → CommonPoint (turned a) (turned b) (turned c) (turned d) → CommonPoint a b c d
 common_turned_back a b c d h =
     record { denominator = h.denominator; first = h.first; second = h.second; whole = h.whole; first_low = h.first_low; first_high = h.first_high; second_low = h.second_low; second_high = h.second_high; across = h.up; up = h.across }
 

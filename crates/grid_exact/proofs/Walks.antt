@@ -1,8 +1,9 @@
 -- How many edges of a walk pass a test, odd or even, and that closed walks are crossed and crossed sideways alike.
 use Rattle.std.proofs.Common.{◌≡◌, suc, Bool, true, false, List, [], ◌∷◌, ◌++◌, refl, sym, ap, ◌∙◌}
-use Rattle.grid_exact.specs.Geometry.{Place}
+use Rattle.grid_exact.specs.Geometry.{Place, IsBefore}
 use Rattle.grid_exact.specs.Crossing.{is_crossed, is_crossed_sideways, is_ahead}
 use Rattle.grid_exact.specs.Walks.{EachEdge, end_of, count_edges, is_odd, differ, IsOff}
+use Rattle.grid_exact.proofs.Orders.{then_before}
 use Rattle.grid_exact.proofs.Crossings.{differ_false}
 use Rattle.grid_exact.proofs.Quadrants.{edge_parity}
 
@@ -83,6 +84,11 @@ end_of-pushed v (w ∷ ws) x = end_of-pushed w ws x
 pub each_edge_mapped : {A : Type 0} (P Q : A → A → Type 0) → ((a b : A) → P a b → Q a b) → (v : A) (ws : List A) → EachEdge P v ws → EachEdge Q v ws
 each_edge_mapped P Q f v [] h = tt
 each_edge_mapped P Q f v (w ∷ ws) h = (f v w h.0, each_edge_mapped P Q f w ws h.1)
+
+-- the end of a walk that comes after its start, edge by edge
+pub before_end : (v w : Place) (ws : List Place) → IsBefore v w → EachEdge IsBefore w ws → IsBefore v (end_of w ws)
+before_end v w [] h rising = h
+before_end v w (x ∷ xs) h rising = before_end v x xs (then_before v w x h rising.0) rising.1
 
 -- ---- two ways to count the edges of a closed walk
 

@@ -1,6 +1,3 @@
-pub mod Geometry
-pub mod Frame
-pub mod Paths
 pub mod Segments
 pub mod Walks
 pub mod Runs
@@ -9,3 +6,6 @@ pub mod Spans
 pub mod Clash
 pub mod Views
 pub mod Laws
+pub mod Geometry
+pub mod Frame
+pub mod Paths
