@@ -1,0 +1,12 @@
+//! Laws on points near a segment, each as the contract of a function that does nothing.
+ghost use Rattle.grid_exact.specs.NearLaws.{NearIsWithinOfWeighted, NearByOneIsWithin};
+
+/// To be near a segment with weights is to be within the bound of it at the weighted points.
+pub fn near_is_within_of_weighted()
+    ensures { NearIsWithinOfWeighted }
+{}
+
+/// With both weights 1 to be near a segment is to be within the bound of it.
+pub fn near_by_one_is_within()
+    ensures { NearByOneIsWithin }
+{}
