@@ -6,6 +6,7 @@ mod plain;
 mod side;
 mod within;
 
+pub use plain::point_at;
 pub use side::{Hand, first_off_side};
 pub use within::all_within;
 

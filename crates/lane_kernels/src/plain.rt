@@ -5,9 +5,9 @@ ghost use Rattle.lane_kernels.specs.Places.{AreCoordinates, EachBetween, IsFirst
 
 use grid_exact::{Bound, Point, area, within};
 
-// The place number k of two lists of coordinates.
+/// The point with the coordinates at the place k, from 0, of two lists of coordinates in grid units.
 #[inline(always)]
-pub(crate) fn point_at(xs: &[i64], ys: &[i64], k: usize) -> Point
+pub fn point_at(xs: &[i64], ys: &[i64], k: usize) -> Point
     requires coordinates { AreCoordinates xs.now ys.now }
     requires in_lists { k < length xs.now }
     ensures { result ≡ place_at xs.now ys.now k }
