@@ -1,6 +1,6 @@
 -- A place in the band of a segment, up to the root of the squared bound times the squared length, is within the bound.
-use Rattle.std.proofs.Common.{◌≡◌, ℕ, ℤ, pos, ◌+ℤ◌, ◌-ℤ◌, ◌*ℤ◌, ◌≤ℤ◌, ◌<ℤ◌, List, refl, arith}
-use Rattle.grid_exact.specs.Geometry.{Place, area_of, length2_of, dot_of, square_of, IsWithin}
+use Rattle.std.proofs.Common.{ℕ, ℤ, pos, ◌+ℤ◌, ◌-ℤ◌, ◌*ℤ◌, ◌≤ℤ◌, List, refl, arith}
+use Rattle.grid_exact.specs.Geometry.{Place, area_of, length2_of, square_of, IsWithin}
 use Rattle.grid_exact.proofs.WholeLaws.{sums}
 use Rattle.grid_exact.proofs.Signs.{times_nonnegative}
 use Rattle.grid_exact.proofs.Polynomial.{◌⊕◌, ◌⊖◌, ◌⊗◌, ◌≈◌, identity_2}

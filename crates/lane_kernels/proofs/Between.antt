@@ -1,5 +1,5 @@
 -- A property of the places of two lists between two numbers: one place more, two stretches one after the other.
-use Rattle.std.proofs.Common.{◌≡◌, ◌⊎◌, inl, inr, ◌↔◌, ℕ, ◌+◌, ◌<◌, ◌≤◌, List, length, Option, Some, None, IfSome, IsNone, ℤ, pos, ◌-ℤ◌, ◌<ℤ◌, subst, sym, arith}
+use Rattle.std.proofs.Common.{◌≡◌, ◌⊎◌, inl, inr, ◌↔◌, ℕ, ◌+◌, ◌<◌, ◌≤◌, List, Option, Some, None, IfSome, IsNone, ℤ, pos, ◌<ℤ◌, subst, arith}
 use Rattle.grid_exact.specs.Geometry.{Place, area_of}
 use Rattle.grid_exact.proofs.WholeLaws.{sums}
 use Rattle.grid_exact.proofs.Areas.{area_turned}

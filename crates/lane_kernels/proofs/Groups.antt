@@ -5,10 +5,9 @@ use Rattle.grid_exact.specs.Geometry.{Place, IsGridNumber, area_of, length2_of, 
 use Rattle.grid_exact.proofs.WholeLaws.{sums, fits}
 use Rattle.lane_kernels.specs.Places.{number_at, place_at, EachBetween, AreCoordinates}
 use Rattle.lane_kernels.specs.Band.{IsInBand}
-use Rattle.lane_kernels.proofs.LaneBits.{AreLanes, splat_lanes, load_lanes, add_lanes, sub_lanes, mul_lanes, add_bits, sub_bits, mul_bits, HaveSigns, signs_of, or_signs, none_negative, zeros}
+use Rattle.lane_kernels.proofs.LaneBits.{AreLanes, splat_lanes, load_lanes, add_lanes, sub_lanes, mul_lanes, add_bits, sub_bits, mul_bits, signs_of, or_signs, none_negative, zeros}
 use Rattle.lane_kernels.proofs.LaneSizes.{grid_fits, way_size, way_fits, product_size, sized_fits}
 use Rattle.std.proofs.lemmas.Int.{ints, by_lt_z}
-use mir.Val.{SFits}
 use lib.Signed.{lt_z}
 
 -- the same number in each lane

@@ -1,13 +1,12 @@
 -- Vectors of four 64-bit numbers, lane by lane: each is the list of its lanes' bits. `AreLanes p f` says that the lane k holds
 -- the number f k; a sum, a difference or a product of two vectors has the exact numbers where these fit.
-use Rattle.std.proofs.Common.{◌≡◌, ◌⊎◌, ◌↔◌, inl, inr, ℕ, zero, suc, ◌+◌, ◌-◌, ◌*◌, ◌/◌, ◌%◌, ◌^◌, ◌<◌, ◌≤◌, Bool, true, false, ◌||◌, IsTrue, cond, leb, eqb, List, [], ◌∷◌, map, length, get_or, ℤ, pos, negsuc, ◌+ℤ◌, ◌-ℤ◌, ◌*ℤ◌, ◌≤ℤ◌, ◌<ℤ◌, bit_or, w64, refl, sym, ap, subst, ◌∙◌, arith, to_z, of_z}
+use Rattle.std.proofs.Common.{◌≡◌, ◌↔◌, ℕ, zero, suc, ◌+◌, ◌-◌, ◌*◌, ◌/◌, ◌%◌, ◌^◌, ◌<◌, ◌≤◌, Bool, true, false, ◌||◌, IsTrue, cond, leb, eqb, List, [], ◌∷◌, map, length, get_or, ℤ, pos, negsuc, ◌+ℤ◌, ◌-ℤ◌, ◌*ℤ◌, bit_or, w64, refl, sym, ap, ◌∙◌, arith, to_z, of_z}
 use Rattle.std.specs.Simd.Lanes.{zip2, chunk, mask_l, top}
 use Rattle.std.proofs.lemmas.Bool.{eqb-true, eq-eqb, le-leb, lt-leb, leb-true, leb-false}
 use Rattle.std.proofs.lemmas.Nat.{or_shr, or_lt}
-use Rattle.std.proofs.lemmas.Int.{ints, to_z-of_z, of_z-to_z, to_z_pos, int_wrap_fits, wrapping_add_is, wrapping_sub_is, wrapping_mul_is}
+use Rattle.std.proofs.lemmas.Int.{ints, of_z-to_z, to_z_pos, int_wrap_fits, wrapping_add_is, wrapping_sub_is, wrapping_mul_is}
 use Rattle.std.proofs.lemmas.List.{get_or-map, length-map}
 use Rattle.std.proofs.lemmas.Simd.{length-zip2, get_or-zip2, length-chunk, get_or-chunk, tops_compared, mask_l-mod}
-use Rattle.grid_exact.proofs.WholeLaws.{sums, fits}
 use mir.Val.{SFits}
 use lib.Signed.{lt_z}
 

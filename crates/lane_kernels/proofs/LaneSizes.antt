@@ -1,9 +1,9 @@
 -- The numbers that the lanes hold fit 64 bits: coordinates, ways, products of two ways, sums of two such products.
-use Rattle.std.proofs.Common.{◌≡◌, ℕ, ◌+◌, ◌^◌, ◌<◌, ◌≤◌, ℤ, pos, ◌+ℤ◌, ◌-ℤ◌, ◌*ℤ◌, unsigned_abs, w64, arith}
+use Rattle.std.proofs.Common.{◌^◌, ◌≤◌, ℤ, ◌-ℤ◌, ◌*ℤ◌, unsigned_abs, w64, arith}
 use Rattle.std.proofs.lemmas.Int.{unsigned_abs-mul}
 use Rattle.std.proofs.lemmas.Nat.{mul-le}
-use Rattle.grid_exact.specs.Geometry.{Place, IsGridNumber, area_of, dot_of}
-use Rattle.grid_exact.proofs.WholeLaws.{sums, fits}
+use Rattle.grid_exact.specs.Geometry.{IsGridNumber}
+use Rattle.grid_exact.proofs.WholeLaws.{fits}
 use mir.Val.{SFits}
 
 -- a number of the grid
