@@ -1,5 +1,4 @@
-// Laws over the definitions alone: functions that do nothing, each of which has a law as its contract.
-
+//! Laws on crossings and on views of the plane, each as the contract of a function that does nothing.
 ghost use Rattle.grid_exact.specs.Laws.{ArePlaneViews, ClosedWalksAgree};
 
 /// From a point that is on none of its edges, a closed walk is crossed and crossed sideways with the same parity.

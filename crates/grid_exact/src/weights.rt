@@ -7,8 +7,8 @@ ghost use Rattle.grid_exact.specs.Weights.{IsWeight, StaysOnGrid, IsFirstOff};
 use crate::point::Point;
 use std::marker::Model;
 
-/// The greatest weight of an axis.
-pub const GREATEST_WEIGHT: u64 = 65536;
+// The greatest weight of an axis.
+const GREATEST_WEIGHT: u64 = 65536;
 
 /// How many units one grid unit counts for, across and up: each a whole number from 1 to 65536.
 #[derive(Clone, Copy, PartialEq, Eq)]

@@ -6,7 +6,7 @@ use Rattle.grid_exact.specs.Geometry.{Place, CommonPoint}
 use Rattle.grid_exact.proofs.WholeLaws.{sums}
 use Rattle.grid_exact.proofs.Signs.{at_most_or_above, times_nonnegative}
 use Rattle.grid_exact.proofs.Polynomial.{Whole, ◌⊕◌, ◌⊖◌, ◌⊗◌, ◌≈◌, Variable, by_identity}
-use Rattle.segment_tests.specs.Meeting.{AreBelow, AreRangesApart}
+use Rattle.segment_tests.specs.Meeting.{AreBelow, AreRangesApart, AreBoxesApart}
 
 -- ---- the test
 
@@ -14,7 +14,7 @@ pub below_by_max : (a b c d : ℤ) → (int_max a b <ℤ int_min c d) ↔ AreBel
 below_by_max a b c d =
     let p = int_max_is a b in
     let q = int_min_is c d in
-    (λ h. record { first_first = omega (arith, sums, p, q); first_second = omega (arith, sums, p, q); second_first = omega (arith, sums, p, q); second_second = omega (arith, sums, p, q) }, λ h. let ac = h.first_first in let ad = h.first_second in let bc = h.second_first in let bd = h.second_second in omega (arith, sums, p, q))
+    (λ h. record { a_below_c = omega (arith, sums, p, q); a_below_d = omega (arith, sums, p, q); b_below_c = omega (arith, sums, p, q); b_below_d = omega (arith, sums, p, q) }, λ h. let ac = h.a_below_c in let ad = h.a_below_d in let bc = h.b_below_c in let bd = h.b_below_d in omega (arith, sums, p, q))
 
 -- ---- the law
 
@@ -53,11 +53,15 @@ below_apart n s t a b c d one sl sh tl th ac ad bc bd same =
         omega (arith, sums, e)
 
 axis_apart : (n s t a b c d : ℤ) → pos 1 ≤ℤ n → pos 0 ≤ℤ s → s ≤ℤ n → pos 0 ≤ℤ t → t ≤ℤ n → AreRangesApart a b c d → ¬ (n *ℤ a +ℤ s *ℤ (b -ℤ a) ≡ n *ℤ c +ℤ t *ℤ (d -ℤ c))
-axis_apart n s t a b c d one sl sh tl th (inl h) same = below_apart n s t a b c d one sl sh tl th h.first_first h.first_second h.second_first h.second_second same
-axis_apart n s t a b c d one sl sh tl th (inr h) same = below_apart n t s c d a b one tl th sl sh h.first_first h.first_second h.second_first h.second_second (sym same)
+axis_apart n s t a b c d one sl sh tl th (inl h) same = below_apart n s t a b c d one sl sh tl th h.a_below_c h.a_below_d h.b_below_c h.b_below_d same
+axis_apart n s t a b c d one sl sh tl th (inr h) same = below_apart n t s c d a b one tl th sl sh h.a_below_c h.a_below_d h.b_below_c h.b_below_d (sym same)
 
-pub x_ranges_apart : (a b c d : Place) → AreRangesApart a.x b.x c.x d.x → ¬ (CommonPoint a b c d)
+x_ranges_apart : (a b c d : Place) → AreRangesApart a.x b.x c.x d.x → ¬ (CommonPoint a b c d)
 x_ranges_apart a b c d apart h = axis_apart h.denominator h.first h.second a.x b.x c.x d.x h.whole h.first_low h.first_high h.second_low h.second_high apart h.across
 
-pub y_ranges_apart : (a b c d : Place) → AreRangesApart a.y b.y c.y d.y → ¬ (CommonPoint a b c d)
+y_ranges_apart : (a b c d : Place) → AreRangesApart a.y b.y c.y d.y → ¬ (CommonPoint a b c d)
 y_ranges_apart a b c d apart h = axis_apart h.denominator h.first h.second a.y b.y c.y d.y h.whole h.first_low h.first_high h.second_low h.second_high apart h.up
+
+pub boxes_apart : (a b c d : Place) → AreBoxesApart a b c d → ¬ (CommonPoint a b c d)
+boxes_apart a b c d (inl apart) = y_ranges_apart a b c d apart
+boxes_apart a b c d (inr apart) = x_ranges_apart a b c d apart

@@ -14,8 +14,8 @@ SegmentsMeetBySigns = (a b c d : Place) → CommonPoint a b c d ↔ (IsCrossing 
 pub record SpansMeet (frame : Frame) (a b c d : Place) : Type 0 where
   pub first : IsUpTo (placed_in frame a) (placed_in frame b)
   pub second : IsUpTo (placed_in frame c) (placed_in frame d)
-  pub second_in_time : IsUpTo (placed_in frame c) (placed_in frame b)
-  pub first_in_time : IsUpTo (placed_in frame a) (placed_in frame d)
+  pub second_starts_in_time : IsUpTo (placed_in frame c) (placed_in frame b)
+  pub first_starts_in_time : IsUpTo (placed_in frame a) (placed_in frame d)
 
 -- of the edges ab and cd, the same one is strictly above the other at both ends of the span that they share
 abbrev pub AreOrdered : Frame → Place → Place → Place → Place → Type 0

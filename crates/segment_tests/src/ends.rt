@@ -8,11 +8,7 @@ use grid_exact::Point;
 pub fn same_ends(a: Point, b: Point, c: Point, d: Point) -> bool
     ensures { IsTrue result ↔ SameEnds a b c d }
 {
-    if same(a, c) && same(b, d) {
-        true
-    } else {
-        same(a, d) && same(b, c)
-    }
+    (same(a, c) && same(b, d)) || (same(a, d) && same(b, c))
 }
 
 // Whether two points are one.

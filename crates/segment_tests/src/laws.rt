@@ -1,4 +1,4 @@
-//! Laws of two segments over the definitions alone: functions that do nothing, each of which has a law as its contract.
+//! Laws on two segments, each as the contract of a function that does nothing.
 ghost use Rattle.segment_tests.specs.Laws.{ApartEdgesAreOrdered, OrderedEdgesAreApart, SegmentsMeetBySigns};
 
 /// Two segments have a common point exactly where they cross by the signs of four areas, or an end of one lies on the other.

@@ -1,3 +1,4 @@
+-- Each view is a lemma.
 use Rattle.grid_exact.proofs.Views.{plain_view, turned_view, negated_view, view_of_view}
 use Rattle.grid_exact.proofs.laws.plane_has_views.Goals as goal
 

@@ -1,3 +1,4 @@
+-- Each way is a lemma.
 use Rattle.segment_tests.proofs.Meetings.{common_by_signs, signs_by_common}
 use Rattle.segment_tests.proofs.laws.segments_meet_by_signs.Goals as goal
 

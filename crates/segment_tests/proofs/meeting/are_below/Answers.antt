@@ -1,3 +1,4 @@
+-- The greater of two numbers is below the lesser of two others exactly where each is below each.
 use Rattle.std.proofs.Common.{◌≡◌, w64, FitsSigned, arith}
 use Rattle.std.specs.Int.{int_max, int_min}
 use Rattle.std.proofs.lemmas.Int.{to_z-of_z}

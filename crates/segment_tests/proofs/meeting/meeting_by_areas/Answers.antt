@@ -1,3 +1,4 @@
+-- What the signs of the areas say of common points.
 use Rattle.std.proofs.Common.{◌≡◌, ◌↔◌, IsTrue, w64, FitsSigned, arith, sym, ◌∙◌}
 use Rattle.std.proofs.lemmas.Int.{to_z-of_z}
 use Rattle.grid_exact.specs.Geometry.{area_of}

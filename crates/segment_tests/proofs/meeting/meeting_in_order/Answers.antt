@@ -1,3 +1,4 @@
+-- What the order of the ends says of common points.
 use Rattle.std.proofs.Common.{sym}
 use Rattle.segment_tests.proofs.Lines.{apart_past, apart_ahead, point_past, point_ahead, inside_in_order}
 use Rattle.segment_tests.proofs.meeting.meeting_in_order.Goals as goal

@@ -1,3 +1,4 @@
+-- Segments that are read backwards meet as before.
 use Rattle.segment_tests.proofs.Lines.{flat_turned, meets_first_turned, meets_second_turned}
 use Rattle.segment_tests.proofs.meeting.meeting_on_line.Goals as goal
 
