@@ -1,4 +1,5 @@
 //! Worked tests of lists of places.
+use crate::lanes::four_in_band;
 use crate::side::{Hand, first_off_side};
 use crate::within::all_within;
 use grid_exact::{Bound, Point};
@@ -22,6 +23,16 @@ fn tells_distances(rt: HostRuntime) {
     assert!(rt; all_within(a, b, &[], &[], bound(&rt, 0)));
     assert!(rt; !all_within(a, at(&rt, (2, 1)), &[1], &[10], bound(&rt, 9)));
     assert!(rt; all_within(a, at(&rt, (2, 1)), &[1], &[10], bound(&rt, 10)));
+}
+
+#[test]
+fn tells_bands(rt: HostRuntime) {
+    let (a, b) = (at(&rt, (0, 0)), at(&rt, (8, 0)));
+    assert!(rt; four_in_band(a, b, 16, &[1, 2, 6, 7], &[2, -2, 0, 1], 0));
+    assert!(rt; !four_in_band(a, b, 15, &[1, 2, 6, 7], &[2, -2, 0, 1], 0));
+    assert!(rt; !four_in_band(a, b, 15, &[1, 2, 6, 7], &[1, -2, 0, 1], 0));
+    assert!(rt; !four_in_band(a, b, 16, &[0, 2, 6, 7], &[0, 0, 0, 0], 0));
+    assert!(rt; !four_in_band(a, b, 16, &[1, 2, 6, 8], &[0, 0, 0, 0], 0));
 }
 
 #[test]

@@ -7,8 +7,8 @@ use crate::lanes::{LANES, four_in_band};
 use crate::plain::each_within;
 use grid_exact::{Bound, Point, length2, threshold};
 
-// Fewer places than this are tested one after another: the root that the lanes need would cost more.
-const FEW: usize = 8;
+// Fewer places than this are tested one after another, which took less time there than the root that the lanes need.
+const FEW: usize = 64;
 
 /// Whether each point of the lists of coordinates is within the bound of the closed segment ab. The ends a and b may be
 /// equal. All numbers are in grid units.
