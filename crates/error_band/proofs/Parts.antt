@@ -1,5 +1,5 @@
 -- The places of a part of two lists are places of the lists.
-use Rattle.std.proofs.Common.{◌≡◌, ◌↔◌, ℕ, ◌+◌, ◌-◌, ◌<◌, ◌≤◌, List, length, take, drop, get_or, ℤ, pos, subst, sym, ◌∙◌, length-take, length-drop, get_or-take, get_or-drop, arith}
+use Rattle.std.proofs.Common.{◌≡◌, ◌↔◌, ℕ, ◌+◌, ◌-◌, ◌<◌, ◌≤◌, List, length, take, drop, ℤ, subst, sym, length-take, length-drop, get_or-take, get_or-drop, arith}
 use Rattle.grid_exact.specs.Geometry.{Place}
 use Rattle.grid_exact.proofs.Commons.{same_place}
 use Rattle.lane_kernels.specs.Places.{number_at, place_at, EachBetween, EachPlace}

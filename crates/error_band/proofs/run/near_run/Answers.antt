@@ -1,5 +1,5 @@
 -- The part of the lists strictly between the two vertices.
-use Rattle.std.proofs.Common.{◌≡◌, ◌↔◌, ◌+◌, IsTrue, subst, arith}
+use Rattle.std.proofs.Common.{◌↔◌, ◌+◌, IsTrue, subst, arith}
 use Rattle.grid_exact.specs.Geometry.{Place, IsWithin}
 use Rattle.lane_kernels.specs.Places.{place_at, EachPlace}
 use Rattle.error_band.proofs.Parts.{part, part_places}
