@@ -9,5 +9,6 @@ abbrev pub IsAlong : Frame → Bool → Place → Place → Type 0
 IsAlong frame true a b = IsBeforeIn frame a b
 IsAlong frame false a b = IsBeforeIn frame b a
 
+-- the vertex number k of the chain
 abbrev pub vertex_at : List Place → ℕ → Place
 vertex_at chain k = slice_index_or chain k (record { x = pos 0; y = pos 0 })

@@ -21,6 +21,7 @@ abbrev pub IsAboveEdge : Frame → Place → Place → Place → Type 0
 IsAboveEdge Plain a b p = pos 0 <ℤ area_of a b p
 IsAboveEdge Turned a b p = area_of a b p <ℤ pos 0
 
+-- and below it
 abbrev pub IsBelowEdge : Frame → Place → Place → Place → Type 0
 IsBelowEdge Plain a b p = area_of a b p <ℤ pos 0
 IsBelowEdge Turned a b p = pos 0 <ℤ area_of a b p
@@ -60,6 +61,7 @@ IsSideOfChain frame (v ∷ ws) p side = IsSideOf frame v ws p side
 
 -- ---- of one edge
 
+-- a place with this area to the left of the way is on this side, where the left is above
 abbrev pub IsSideBySign : ℤ → Side → Type 0
 IsSideBySign left Above = pos 0 <ℤ left
 IsSideBySign left Below = left <ℤ pos 0

@@ -1,12 +1,13 @@
 //! The side of a point: the edge that spans it decides.
-ghost use Rattle.std.specs.Prelude.{◌≡◌, ◌↔◌, ◌*ℤ◌, ◌≤◌, ◌^◌, unsigned_abs};
+ghost use Rattle.std.specs.Prelude.{◌≡◌, ◌↔◌};
 ghost use Rattle.chain_side.specs.Sides.{IsMonotoneChain, IsSideOfChain, IsSideOfEdge, IsSideBySign};
 
 use crate::search::{comes_before, edge_at, precedes};
 use crate::sides::Side;
 use grid_exact::{Frame, Point, area};
 
-/// The side of the chain on which p lies.
+/// The side of a chain on which p lies. The chain is the list of its vertices, two or more, which run strictly one way in
+/// the order of the frame. An edge is found by halving, so a chain of n vertices takes about log2(n) comparisons.
 pub fn side(chain: &[Point], frame: Frame, p: Point) -> Side
     requires { IsMonotoneChain frame chain.now }
     ensures { (side : Side) → (result ≡ side) ↔ IsSideOfChain frame chain.now p side }
@@ -35,6 +36,7 @@ fn side_of_edge(frame: Frame, a: Point, b: Point, p: Point) -> Side
     }
 }
 
+// The side that the sign of an area tells, where above is to the left of the way.
 fn side_by_sign(left: i64) -> Side
     ensures { IsSideBySign left result }
 {

@@ -125,7 +125,7 @@ module _ (a b : Place) (xs ys : List ℤ) (at : ℕ) (across up left low : ℕ) 
 
 -- ---- what the sign bits say
 
--- whether some of the lanes of p is negative, by the bits of its lanes
+-- whether no lane of p is negative, by the bits of its lanes
 abbrev pub is_none_negative : List ℕ → Bool
 is_none_negative p = eqb (mask_l (map (top 63) (zip2 (λ a b. cond (lt_z (to_z w64 a) (to_z w64 b)) (2 ^ 64 - 1) 0) p zeros)) % 2 ^ 64) 0
 

@@ -1,3 +1,4 @@
+-- p has come to the lower of two vertices and not passed the higher.
 use Rattle.std.proofs.Common.{◌-◌, ◌<◌, length}
 use Rattle.chain_side.specs.Along.{IsAlong, vertex_at}
 use Rattle.chain_side.proofs.search.edge_at.Given as goal

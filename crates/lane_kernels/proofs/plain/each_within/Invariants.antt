@@ -1,3 +1,4 @@
+-- The places so far are within the bound.
 use Rattle.grid_exact.specs.Geometry.{IsWithin}
 use Rattle.lane_kernels.specs.Places.{EachBetween}
 use Rattle.lane_kernels.proofs.plain.each_within.Given as goal

@@ -1,3 +1,4 @@
+-- The places so far are on the left.
 use Rattle.std.proofs.Common.{pos, ◌<ℤ◌}
 use Rattle.grid_exact.specs.Geometry.{area_of}
 use Rattle.lane_kernels.specs.Places.{EachBetween}

@@ -1,3 +1,4 @@
+-- The groups so far are within the bound.
 use Rattle.std.proofs.Common.{◌-◌, ◌≤◌, length}
 use Rattle.grid_exact.specs.Geometry.{IsWithin}
 use Rattle.lane_kernels.specs.Places.{EachBetween}
