@@ -1,5 +1,6 @@
 pub mod Segments
 pub mod Walks
+pub mod Runs
 pub mod Crossing
 pub mod Spans
 pub mod Clash

@@ -1,0 +1,4 @@
+pub mod AlongOrder
+pub mod Passed
+pub mod Told
+pub mod Parity

@@ -1,0 +1,14 @@
+//! On which side of a chain that runs strictly one way a point lies.
+#![tactic(auto)]
+
+mod decide;
+mod laws;
+mod search;
+mod sides;
+
+pub use decide::side;
+pub use laws::sides_tell_crossings;
+pub use sides::Side;
+
+#[cfg(test)]
+mod tests;

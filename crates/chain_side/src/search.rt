@@ -1,0 +1,51 @@
+//! The search for the edge of a chain that a point has come to.
+ghost use Rattle.std.specs.Prelude.{◌≡◌, ◌↔◌, ◌+◌, ◌-◌, ◌<◌, ◌≤◌, IsTrue, length};
+ghost use Rattle.grid_exact.specs.Frame.{IsBeforeIn};
+ghost use Rattle.chain_side.specs.Along.{IsAlong, vertex_at};
+
+use grid_exact::{Frame, Point, order};
+use std::cmp::Ordering;
+
+// Whether a comes before b in the order of the frame.
+pub(crate) fn precedes(frame: Frame, a: Point, b: Point) -> bool
+    ensures { IsTrue result ↔ IsBeforeIn frame a b }
+{
+    match order(frame, a, b) {
+        Ordering::Less => true,
+        Ordering::Equal | Ordering::Greater => false,
+    }
+}
+
+// Whether a comes before b along a chain that rises, or falls, in the order of the frame.
+pub(crate) fn comes_before(frame: Frame, rising: bool, a: Point, b: Point) -> bool
+    ensures { IsTrue result ↔ IsAlong frame rising a b }
+{
+    if rising {
+        precedes(frame, a, b)
+    } else {
+        precedes(frame, b, a)
+    }
+}
+
+// The number of an edge whose start p does not come before, and whose end does not come before p, found by
+// halving.
+pub(crate) fn edge_at(chain: &[Point], frame: Frame, rising: bool, p: Point) -> usize
+    requires has_edge { 2 ≤ length chain.now }
+    requires from_first { ¬ (IsAlong frame rising p (vertex_at chain.now 0)) }
+    requires to_last { ¬ (IsAlong frame rising (vertex_at chain.now (length chain.now - 1)) p) }
+    ensures in_chain { result + 1 < length chain.now }
+    ensures from_start { ¬ (IsAlong frame rising p (vertex_at chain.now result)) }
+    ensures to_end { ¬ (IsAlong frame rising (vertex_at chain.now (result + 1)) p) }
+{
+    let mut low = 0;
+    let mut high = chain.len() - 1;
+    while low + 1 < high {
+        let middle = low + (high - low) / 2;
+        if comes_before(frame, rising, p, chain[middle]) {
+            high = middle;
+        } else {
+            low = middle;
+        }
+    }
+    low
+}

@@ -1,0 +1,5 @@
+pub mod LaneBits
+pub mod LaneSizes
+pub mod Groups
+pub mod Between
+pub mod Bands
