@@ -16,3 +16,7 @@ pub mod Kept
 pub mod Parity
 pub mod Outcome
 pub mod Example
+pub mod FurthestRun
+pub mod NextRun
+pub mod ArcVertices
+pub mod CutSoFar
