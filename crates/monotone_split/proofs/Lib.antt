@@ -20,3 +20,4 @@ pub mod FurthestRun
 pub mod NextRun
 pub mod ArcVertices
 pub mod CutSoFar
+pub mod Neighbours
