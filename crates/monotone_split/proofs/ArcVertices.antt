@@ -1,5 +1,5 @@
 -- The vertices of an arc by their numbers, and the chain that is cut off at one of them.
-use Rattle.std.proofs.Common.{◌≡◌, ◌∙◌, ℕ, zero, suc, ◌+◌, ◌-◌, ◌<◌, ◌≤◌, ◌==◌, ◌||◌, nat_eq, Bool, true, false, List, [], ◌∷◌, ◌++◌, length, get_or, map, take, drop, refl, sym, ap, subst, arith, add-one, drop-cons, length-drop}
+use Rattle.std.proofs.Common.{◌≡◌, ◌∙◌, ℕ, zero, suc, ◌+◌, ◌-◌, ◌<◌, ◌≤◌, ◌==◌, ◌||◌, Bool, true, List, [], ◌∷◌, ◌++◌, length, get_or, map, take, drop, refl, sym, ap, subst, arith, add-one, drop-cons, length-drop}
 use Rattle.std.specs.List.{range_with_len}
 use Rattle.std.proofs.lemmas.Bool.Decides.{nat_tests}
 use Rattle.std.proofs.lemmas.List.{drop-drop, get_or-drop}
@@ -17,9 +17,9 @@ use Rattle.arc_map.specs.Chains.{Chain}
 use Rattle.arc_map.specs.Arcs.{vertex, is_first, vertices_from, most_edges, IsFurthest, IsNextChain, IsCutInto}
 use Rattle.arc_map.specs.Arcs.IsNextChain.{PlainReaches, TurnedReaches}
 use Rattle.arc_map.specs.Arranged.{arc_at, nowhere, position_at, is_arc_end}
-use Rattle.arc_map.specs.Work.{vertex_in, chain_in, LiesInArc}
+use Rattle.arc_map.specs.Work.{vertex_in, chain_in}
 use Rattle.arc_map.specs.declared.refs.ChainRef.{ChainRef}
-use Rattle.monotone_split.specs.Cut.{IsRun, IsFurthestRun, IsNextRun, IsNextChainRef, IsShort}
+use Rattle.monotone_split.specs.Cut.{IsRun, IsFurthestRun, IsNextRun, IsNextChainRef}
 use Rattle.monotone_split.specs.Cut.IsNextRun.{PlainReaches as PlainRunReaches, TurnedReaches as TurnedRunReaches}
 
 -- the n vertices of the arc after the position number `start`
@@ -177,8 +177,7 @@ cut_before m arc start n frame ks edge run cut =
     let reach = reach_of (arc_at m arc) start n frame edge run in
     let some = reach.some in
     let count = length-map-range_with_len (vertex_in m arc) (start + 1) n in
-    subst (λ (k : Chain). IsCutInto (vertex_in m arc start) (all_after m arc start) (k ∷ ks)) (sym (chain_in-made m arc start n frame))
-    (
+    subst (λ (k : Chain). IsCutInto (vertex_in m arc start) (all_after m arc start) (k ∷ ks)) (sym (chain_in-made m arc start n frame)) (
       refl,
       next_made m arc start n frame edge run,
       all_after m arc (start + n),

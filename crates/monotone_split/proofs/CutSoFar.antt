@@ -1,5 +1,5 @@
 -- What has been cut so far: whatever the rest is cut into completes it.
-use Rattle.std.proofs.Common.{◌≡◌, ◌∙◌, ℕ, suc, ◌+◌, ◌-◌, ◌<◌, ◌≤◌, ◌^◌, List, [], ◌∷◌, ◌++◌, All, length, get_or, map, drop, sum_by, refl, sym, ap, subst, arith, add-one, drop-cons, append_assoc}
+use Rattle.std.proofs.Common.{◌≡◌, ◌∙◌, ℕ, suc, ◌+◌, ◌-◌, ◌<◌, ◌≤◌, List, [], ◌∷◌, ◌++◌, All, length, map, drop, refl, sym, ap, subst, arith, add-one, drop-cons, append_assoc}
 use Rattle.std.specs.List.{range_with_len}
 use Rattle.std.proofs.lemmas.List.{append-nil, map-append, drop_all, length-map}
 use Rattle.std.proofs.lemmas.List.Elements.{All-append, All-push, All-from_recursion}
@@ -13,7 +13,7 @@ use Rattle.arc_map.specs.Work.{vertex_in, chain_in, LiesInArc, AreChainsIn}
 use Rattle.arc_map.specs.declared.refs.ChainRef.{ChainRef}
 use Rattle.arc_map.proofs.Cutting.{count_of_arcs}
 use Rattle.monotone_split.specs.Cut.{IsNextRun, IsNextChainRef, IsShort, AddsChainsOf, AreChainRefs}
-use Rattle.monotone_split.proofs.ArcVertices.{all_after, vertices_numbered, ref_made, Reach, reach_of, cut_before}
+use Rattle.monotone_split.proofs.ArcVertices.{all_after, vertices_numbered, ref_made, reach_of, cut_before}
 
 -- ---- one arc
 

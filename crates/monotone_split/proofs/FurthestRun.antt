@@ -1,16 +1,15 @@
 -- The furthest run from a position: how far its edges go the way of the first one.
-use Rattle.std.proofs.Common.{◌≡◌, ◌↔◌, ◌∙◌, ◌==◌, Bool, true, false, not, ℕ, zero, suc, ◌+◌, ◌<◌, ◌≤◌, List, [], ◌∷◌, length, get_or, take, drop, refl, sym, ap, subst, arith, add-one}
+use Rattle.std.proofs.Common.{◌≡◌, ◌↔◌, ◌∙◌, ◌==◌, Bool, true, false, not, ℕ, zero, suc, ◌+◌, ◌<◌, ◌≤◌, List, [], ◌∷◌, length, get_or, take, refl, sym, ap, subst, arith, add-one}
 use Rattle.std.specs.Ordering.{ordering_index}
 use Rattle.std.specs.declared.cmp.Ordering.{Ordering}
 use Rattle.std.specs.declared.cmp.Ordering.TheVariants.{Less, Equal, Greater}
-use Rattle.grid_exact.specs.Geometry.{Place, IsBefore, turned}
+use Rattle.grid_exact.specs.Geometry.{Place, turned}
 use Rattle.grid_exact.specs.Frame.{IsBeforeIn}
 use Rattle.grid_exact.specs.Walks.{EachEdge}
 use Rattle.grid_exact.specs.declared.frame.Frame.{Frame}
 use Rattle.grid_exact.specs.declared.frame.Frame.TheVariants.{Plain, Turned}
 use Rattle.grid_exact.proofs.Orders.{not_both_ways, not_before_itself}
 use Rattle.arc_map.specs.Map.{IsArc}
-use Rattle.arc_map.specs.Walks.{IsMonotone}
 use Rattle.arc_map.specs.Walks.IsMonotone.{Increasing, Decreasing}
 use Rattle.arc_map.specs.Arcs.{most_edges}
 use Rattle.arc_map.specs.Arranged.{nowhere}

@@ -1,11 +1,10 @@
 -- The next chain of an arc by the furthest runs of the two frames.
-use Rattle.std.proofs.Common.{◌≡◌, ◌∙◌, ℕ, zero, suc, ◌+◌, ◌-◌, ◌<◌, ◌≤◌, List, [], ◌∷◌, length, take, drop, refl, sym, ap, subst, arith, length-drop}
+use Rattle.std.proofs.Common.{◌≡◌, ℕ, zero, suc, ◌+◌, ◌-◌, ◌<◌, ◌≤◌, List, [], ◌∷◌, length, take, drop, refl, sym, ap, subst, arith, length-drop}
 use Rattle.std.proofs.lemmas.List.{take_all}
 use Rattle.grid_exact.specs.Geometry.{Place}
 use Rattle.grid_exact.specs.declared.frame.Frame.{Frame}
 use Rattle.grid_exact.specs.declared.frame.Frame.TheVariants.{Plain, Turned}
 use Rattle.arc_map.specs.Map.{IsArc}
-use Rattle.arc_map.specs.declared.refs.ChainRef.{ChainRef}
 use Rattle.monotone_split.specs.Cut.{IsFurthestRun, IsNextRun, IsNextChainRef}
 use Rattle.monotone_split.specs.Cut.IsNextRun.{PlainReaches, TurnedReaches}
 

@@ -1,5 +1,5 @@
 -- Runs that increase in the order of places: the side on which an edge or a point lies.
-use Rattle.std.proofs.Common.{◌≡◌, ◌⊎◌, Bool, true, false, ◌||◌, List, [], ◌∷◌, ◌++◌, ℤ, pos, ◌-ℤ◌, ◌<ℤ◌, int_lt, refl, sym, ap, subst, ◌∙◌, arith}
+use Rattle.std.proofs.Common.{◌≡◌, Bool, true, false, List, [], ◌∷◌, ◌++◌, ℤ, pos, ◌-ℤ◌, ◌<ℤ◌, int_lt, refl, sym, ap, subst, ◌∙◌, arith}
 use Rattle.grid_exact.specs.Geometry.{Place, area_of, IsBefore, CommonPoint}
 use Rattle.grid_exact.specs.Crossing.{is_before, is_crossed}
 use Rattle.grid_exact.specs.Walks.{count_edges, is_odd, end_of, differ, EachEdge}

@@ -1,6 +1,6 @@
 -- The run ends where an edge goes another way, or at the limit.
-use Rattle.std.proofs.Common.{◌≡◌, ℕ, ◌+◌, ◌<◌, ◌≤◌, length, arith, subst, sym, below_more}
-use Rattle.monotone_split.proofs.FurthestRun.{furthest_where_it_turns, furthest_to_the_end, goes_same_way, goes_other_way, goes_by, goes_in_list, RunsSo}
+use Rattle.std.proofs.Common.{arith, below_more}
+use Rattle.monotone_split.proofs.FurthestRun.{furthest_where_it_turns, furthest_to_the_end, goes_same_way, goes_other_way}
 use Rattle.monotone_split.proofs.cut.furthest_run.Goals as goal
 
 pub returns-then-ne : goal.returns-then-ne

@@ -1,5 +1,4 @@
 -- The run so far goes one way.
-use Rattle.std.proofs.Common.{◌≤◌, ◌<◌}
 use Rattle.monotone_split.proofs.FurthestRun.{RunsSo}
 use Rattle.monotone_split.proofs.cut.furthest_run.Given as goal
 

@@ -1,7 +1,4 @@
 -- The rest of an arc is an arc, and the further run of the two frames is the next one.
-use Rattle.std.proofs.Common.{◌+◌, ◌<◌, ◌-◌, length, drop, take, arith, sym, subst}
-use Rattle.grid_exact.specs.Geometry.{Place}
-use Rattle.arc_map.specs.Map.{IsArc}
 use Rattle.monotone_split.proofs.NextRun.{arc_from, plain_next, turned_next}
 use Rattle.monotone_split.proofs.cut.next_chain.Goals as goal
 

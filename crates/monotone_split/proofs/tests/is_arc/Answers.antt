@@ -1,5 +1,5 @@
 -- All neighbours have been tested.
-use Rattle.std.proofs.Common.{arith, rules, ◌<◌, length}
+use Rattle.std.proofs.Common.{arith, rules}
 use Rattle.monotone_split.proofs.Neighbours.{arc_by_tests}
 use Rattle.monotone_split.proofs.tests.is_arc.Goals as goal
 
