@@ -1,4 +1,7 @@
 -- Common points of two segments: read backwards, at ends, and where an end is shared.
+--
+-- Where a proof computes with the fractions of a common point that it made, as `pos 0` of `common_at_start`, the function
+-- that makes it is an `abbrev`.
 use Rattle.std.proofs.Common.{◌≡◌, ◌⊎◌, inl, inr, [], ◌∷◌, ℤ, pos, negsuc, ◌+ℤ◌, ◌-ℤ◌, ◌*ℤ◌, ◌≤ℤ◌, refl, sym, ap, subst, ◌∙◌, arith}
 use Rattle.std.proofs.lemmas.Int.{ints}
 use Rattle.grid_exact.specs.Geometry.{Place, IsOnSegment, CommonPoint}
@@ -294,17 +297,17 @@ one_start_way n s t a b c d one e f h =
 pub starts_are_one : (a b c d : Place) (h : CommonPoint a b c d) → h.first ≡ pos 0 → h.second ≡ pos 0 → a ≡ c
 starts_are_one a b c d h e f = same_place a c (one_start_way h.denominator h.first h.second a.x b.x c.x d.x h.whole e f h.across) (one_start_way h.denominator h.first h.second a.y b.y c.y d.y h.whole e f h.up)
 
-none_left : (n s : ℤ) → s ≡ n → n -ℤ s ≡ pos 0
-none_left n s e = omega (arith, sums)
+none_of_rest : (n s : ℤ) → s ≡ n → n -ℤ s ≡ pos 0
+none_of_rest n s e = omega (arith, sums)
 
 pub start_is_end : (a b c d : Place) (h : CommonPoint a b c d) → h.first ≡ pos 0 → h.second ≡ h.denominator → a ≡ d
-start_is_end a b c d h e f = starts_are_one a b d c (second_turned a b c d h) e (none_left h.denominator h.second f)
+start_is_end a b c d h e f = starts_are_one a b d c (second_turned a b c d h) e (none_of_rest h.denominator h.second f)
 
 pub end_is_start : (a b c d : Place) (h : CommonPoint a b c d) → h.first ≡ h.denominator → h.second ≡ pos 0 → b ≡ c
-end_is_start a b c d h e f = starts_are_one b a c d (first_turned a b c d h) (none_left h.denominator h.first e) f
+end_is_start a b c d h e f = starts_are_one b a c d (first_turned a b c d h) (none_of_rest h.denominator h.first e) f
 
 pub ends_are_one : (a b c d : Place) (h : CommonPoint a b c d) → h.first ≡ h.denominator → h.second ≡ h.denominator → b ≡ d
-ends_are_one a b c d h e f = starts_are_one b a d c (first_turned a b d c (second_turned a b c d h)) (none_left h.denominator h.first e) (none_left h.denominator h.second f)
+ends_are_one a b c d h e f = starts_are_one b a d c (first_turned a b d c (second_turned a b c d h)) (none_of_rest h.denominator h.first e) (none_of_rest h.denominator h.second f)
 
 -- ---- segments that share an end
 
@@ -368,8 +371,8 @@ pub data AtEnds (denominator first second : ℤ) : Type 0 where
   EndAndStart : first ≡ denominator → second ≡ pos 0 → AtEnds denominator first second
   Ends : first ≡ denominator → second ≡ denominator → AtEnds denominator first second
 
-rest_none : (n s : ℤ) → n -ℤ s ≡ pos 0 → s ≡ n
-rest_none n s e = omega (arith, sums)
+all_by_rest : (n s : ℤ) → n -ℤ s ≡ pos 0 → s ≡ n
+all_by_rest n s e = omega (arith, sums)
 
 -- where p stands to the segment vu
 pub data Standing (v u p : Place) : Type 0 where
@@ -388,11 +391,11 @@ meet_at_ends v u c d vu cd on_v on_u (AtEnd e) (AtStart f) other apart h = absur
 meet_at_ends v u c d vu cd on_v on_u (AtEnd e) (AtEnd f) other apart h = absurd (cd (e ∙ sym f))
 meet_at_ends v u c d vu cd on_v on_u (AtEnd e) (Off f) other apart h =
     let r : AtBothStarts u v c d (first_turned v u c d h) = only_shared_start u v c d e (λ on. f (on_turned u v d on)) (λ on. elim (on_v on) [ inl k ↦ vu (k ∙ e) | inr k ↦ f (start_on v u d (sym k)) ]) (first_turned v u c d h) in
-    EndAndStart (rest_none h.denominator h.first r.first) r.second
+    EndAndStart (all_by_rest h.denominator h.first r.first) r.second
 meet_at_ends v u c d vu cd on_v on_u (Off e) (AtStart f) other apart h =
     let r : AtBothStarts v u d c (second_turned v u c d h) = only_shared_start v u d c f e (λ on. elim (on_u (on_turned d c u on)) [ inl k ↦ e (end_is_on v u c (sym k)) | inr k ↦ vu (sym (k ∙ f)) ]) (second_turned v u c d h) in
-    StartAndEnd r.first (rest_none h.denominator h.second r.second)
+    StartAndEnd r.first (all_by_rest h.denominator h.second r.second)
 meet_at_ends v u c d vu cd on_v on_u (Off e) (AtEnd f) other apart h =
     let r : AtBothStarts u v d c (first_turned v u d c (second_turned v u c d h)) = only_shared_start u v d c f (λ on. e (on_turned u v c on)) (λ on. elim (on_v (on_turned d c v on)) [ inl k ↦ e (start_on v u c (sym k)) | inr k ↦ vu (k ∙ f) ]) (first_turned v u d c (second_turned v u c d h)) in
-    Ends (rest_none h.denominator h.first r.first) (rest_none h.denominator h.second r.second)
+    Ends (all_by_rest h.denominator h.first r.first) (all_by_rest h.denominator h.second r.second)
 meet_at_ends v u c d vu cd on_v on_u (Off e) (Off f) other apart h = absurd (apart e f h)

@@ -28,12 +28,6 @@ or_turned true false = refl
 or_turned false true = refl
 or_turned false false = refl
 
-pub differ_same : (s t : Bool) → s ≡ t → differ s t ≡ false
-differ_same true true e = refl
-differ_same true false e = cc
-differ_same false true e = cc
-differ_same false false e = refl
-
 -- ---- an edge read backwards
 
 pub crossed_turned : (p a b : Place) → is_crossed p a b ≡ is_crossed p b a

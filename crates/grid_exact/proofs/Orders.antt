@@ -1,4 +1,7 @@
 -- The order of places that compares x, then y, and what two edges after one another share.
+--
+-- `compared` splits into before, same and after; `tested` splits the test `is_before` with what each answer says. For the
+-- order that compares y, then x, give the places as `turned`.
 use Rattle.std.proofs.Common.{◌≡◌, inl, inr, true, false, [], ◌∷◌, ℤ, pos, negsuc, ◌+ℤ◌, ◌-ℤ◌, ◌*ℤ◌, ◌≤ℤ◌, ◌<ℤ◌, int_lt, int_le, refl, sym, ap, subst, ◌∙◌, arith, ◌↔◌, IsTrue, FitsSigned, to_z, of_z}
 use Rattle.std.proofs.lemmas.Int.{ints, to_z-of_z}
 use Rattle.std.specs.Int.Signed.{lt_z}

@@ -1,4 +1,7 @@
 -- Views of the plane: with its axes exchanged, turned half round, and one after another.
+--
+-- A run that is strictly monotone in a frame increases, in the order that compares x, then y, in one of four views: the
+-- plane as it is, negated, turned, or both. So a lemma is proved once, for increasing runs, and carried over by a view.
 use Rattle.std.proofs.Common.{◌≡◌, Bool, true, false, List, [], ◌∷◌, ◌++◌, map, ℤ, pos, negsuc, ◌+ℤ◌, ◌-ℤ◌, ◌*ℤ◌, int_lt, refl, sym, ap, ◌∙◌, arith}
 use Rattle.grid_exact.specs.Geometry.{Place, area_of, turned, IsBefore, IsOnSegment, CommonPoint}
 use Rattle.grid_exact.specs.Geometry.IsBefore.{Left, Below}

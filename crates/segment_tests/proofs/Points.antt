@@ -7,7 +7,7 @@ use Rattle.grid_exact.proofs.WholeLaws.{sums}
 use Rattle.grid_exact.proofs.Signs.{Negative, Zero, Positive, sign_of, at_most_or_above, times_nonnegative, times_positive, times_negative, nonnegative_times_nonpositive, zero_from_times}
 use Rattle.grid_exact.proofs.Polynomial.{Whole, ◌⊖◌, ◌⊗◌, ◌≈◌, ◌times◌, Variable, by_identity, by_multiples}
 use Rattle.grid_exact.proofs.Spots.{spot, numbers_of, area_in, turn_in}
-use Rattle.grid_exact.proofs.Commons.{common_swapped}
+use Rattle.grid_exact.proofs.Commons.{rest_low, common_swapped}
 use Rattle.grid_exact.proofs.Areas.{turn_of, area_abc, area_abd, area_cda, areas_differ, common_right, common_left}
 use Rattle.segment_tests.specs.Meeting.{MeetAtPoint}
 
@@ -29,9 +29,6 @@ no_one_side n u v x y s t k one low high xu yv e f (BothBelow p q) =
       | inl h ↦ let r : pos 0 ≤ℤ (t *ℤ k) = times_nonnegative t k high h in omega (arith, sums)
       | inr h ↦ let r : (s *ℤ k) ≤ℤ pos 0 = nonnegative_times_nonpositive s k low (omega (arith, sums)) in omega (arith, sums)
     ]
-
-rest_low : (n s : ℤ) → s ≤ℤ n → pos 0 ≤ℤ (n -ℤ s)
-rest_low n s h = omega (arith, sums)
 
 pub one_side_apart : (a b c d : Place) → SameSign (area_of a b c) (area_of a b d) → ¬ (CommonPoint a b c d)
 one_side_apart a b c d side h =

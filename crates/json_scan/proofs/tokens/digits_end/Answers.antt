@@ -1,3 +1,4 @@
+-- What the check leaves to show of `digits_end`.
 use Rattle.std.proofs.Common.{arith, sym, ◌∙◌}
 use Rattle.json_scan.proofs.Lexed.{digits_more}
 use Rattle.json_scan.proofs.tokens.digits_end.Goals as goal

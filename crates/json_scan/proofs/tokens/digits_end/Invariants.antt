@@ -1,3 +1,4 @@
+-- What holds at each turn of the loop of `digits_end`, and that it ends.
 use Rattle.std.proofs.Common.{ℕ, ◌-◌, ◌≤◌, List, length}
 use Rattle.json_scan.specs.declared.node.Node.{Node}
 use Rattle.json_scan.specs.declared.node.Open.{Open}

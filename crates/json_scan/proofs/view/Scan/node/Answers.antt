@@ -1,3 +1,4 @@
+-- What the check leaves to show of `node`.
 use Rattle.std.proofs.Common.{rules}
 use Rattle.json_scan.specs.Scans.{HasNodes}
 use Rattle.json_scan.proofs.Stands.{node-stands}

@@ -1,3 +1,4 @@
+-- What the check leaves to show of `whole`.
 use Rattle.std.proofs.Common.{◌∙◌, subst, sym}
 use Rattle.json_scan.specs.Whole.{IsSmall}
 use Rattle.json_scan.proofs.Nodes.{number-spelled, number-has}
