@@ -1,14 +1,14 @@
 -- A chain in memory, and what becomes of it and of the list of chains where it is thinned.
-use Rattle.std.proofs.Common.{◌≡◌, ◌≢◌, ◌∙◌, ℕ, ◌<◌, ◌≤◌, List, All, AllPairs, map, length, get_or, set, drop, refl, sym, ap, arith, subst}
+use Rattle.std.proofs.Common.{◌≡◌, ◌∙◌, ℕ, ◌<◌, List, map, length, get_or, drop, ap, arith}
 use Rattle.std.proofs.lemmas.List.{length-map}
 use Rattle.grid_exact.specs.Geometry.{Place}
 use Rattle.arc_map.specs.Map.{Map}
-use Rattle.arc_map.specs.Chains.{Chain, chain_at}
 use Rattle.arc_map.specs.Paths.{vertices_at}
 use Rattle.arc_map.specs.Arranged.{position_at, nowhere}
 use Rattle.arc_map.specs.Work.{AreKeptIn}
 use Rattle.arc_map.specs.Live.{live_chain, IsLive}
 use Rattle.arc_map.specs.declared.work.LiveChain.{LiveChain}
+use Rattle.arc_map.proofs.Rising.{rising-length}
 use Rattle.arc_map.proofs.Thinning.{kept_below, kept_spans, kept_positions, kept_distinct, kept_rest}
 
 -- now is what is left of the chain before where the vertices at these places are kept
@@ -33,6 +33,7 @@ live_after m x y kept live keep thinned =
     record {
       lies = rw thinned.place live.lies;
       spans = rw (thinned.place, thinned.numbers) spans;
+      short = rw thinned.numbers (omega (arith, length-map kept (λ at. get_or x.numbers.items at 0), rising-length (length x.numbers.items) kept keep.rising within, live.short));
       positions = rw (thinned.place, thinned.numbers, thinned.vertices) positions;
       distinct = rw thinned.vertices distinct;
     }

@@ -1,6 +1,6 @@
 -- What holds of the chains into which the arcs of a map are cut: each runs one way, each begins where the one before
 -- it in its arc ends, and they are no more than there are positions.
-use Rattle.std.proofs.Common.{◌≡◌, ◌≢◌, ◌∙◌, ℕ, suc, ◌+◌, ◌<◌, ◌≤◌, List, [], ◌∷◌, ◌++◌, All, AllPairs, map, length, sum_by, refl, sym, ap, subst, arith, length-append}
+use Rattle.std.proofs.Common.{◌≡◌, ◌≢◌, ◌∙◌, ℕ, suc, ◌<◌, ◌≤◌, List, [], ◌∷◌, ◌++◌, AllPairs, length, sum_by, refl, sym, ap, subst, arith, length-append}
 use Rattle.std.specs.List.{AllByRecursion}
 use Rattle.std.proofs.lemmas.List.Elements.{All-from_recursion}
 use Rattle.std.proofs.lemmas.List.Kept.{AllPairs-cons}
@@ -14,8 +14,8 @@ use Rattle.grid_exact.proofs.Orders.{then_before, not_before_itself}
 use Rattle.arc_map.specs.Vertices.{Vertex, places}
 use Rattle.arc_map.specs.Walks.{IsMonotone}
 use Rattle.arc_map.specs.Walks.IsMonotone.{Increasing, Decreasing}
-use Rattle.arc_map.specs.Chains.{Chain, chain_places}
-use Rattle.arc_map.specs.Arcs.{most_edges, vertices_from, IsFurthest, IsNextChain, IsCutInto, IsListCutInto, AreChainsOf}
+use Rattle.arc_map.specs.Chains.{Chain}
+use Rattle.arc_map.specs.Arcs.{most_edges, vertices_from, IsNextChain, IsCutInto, IsListCutInto, AreChainsOf}
 use Rattle.arc_map.specs.Arcs.IsNextChain.{PlainReaches, TurnedReaches}
 
 -- what each chain of a map is
@@ -157,8 +157,8 @@ later_arcs arc (ps ∷ pss) ks cut =
     let here = arcs_of_list arc (vertices_from arc 0 ps) cut.0 cut.3 (vertices_in_arc arc 0 ps) in
     let behind = later_arcs (suc arc) pss cut.1 cut.4 in
     rw cut.2 (append_all (λ k. arc ≤ k.first.arc) cut.0 cut.1
-      (weaken_all (λ k. k.first.arc ≡ arc) (λ k. arc ≤ k.first.arc) (λ k same. omega arith) cut.0 here)
-      (weaken_all (λ k. suc arc ≤ k.first.arc) (λ k. arc ≤ k.first.arc) (λ k past. omega arith) cut.1 behind))
+    (weaken_all (λ k. k.first.arc ≡ arc) (λ k. arc ≤ k.first.arc) (λ k same. omega arith) cut.0 here)
+    (weaken_all (λ k. suc arc ≤ k.first.arc) (λ k. arc ≤ k.first.arc) (λ k past. omega arith) cut.1 behind))
 
 linked_walk : (v : Vertex) (ws : List Vertex) (ks : List Chain) → IsCutInto v ws ks → AreLinked ks
 linked_walk v ws [] cut = tt

@@ -1,11 +1,10 @@
 -- Records that lie one after the other in flat lists: those that were there stay where one is added.
-use Rattle.std.proofs.Common.{◌≡◌, ◌∙◌, ℕ, ◌+◌, ◌-◌, ◌≤◌, List, [], ◌∷◌, ◌++◌, All, map, length, take, drop, slice_range, ap, refl, sym, arith, length-drop}
+use Rattle.std.proofs.Common.{◌≡◌, ◌∙◌, ℕ, ◌+◌, ◌-◌, ◌≤◌, List, [], ◌∷◌, ◌++◌, All, map, length, take, drop, slice_range, ap, refl, arith, length-drop}
 use Rattle.std.proofs.lemmas.List.{take-append-le, drop-append-le, take_all, map-append}
 use Rattle.std.proofs.lemmas.List.Elements.{All-head, All-tail}
 use Rattle.std.proofs.Math.Seq.{drop-append_seam}
 use Rattle.arc_map.specs.declared.records.Entry.{Entry}
 use Rattle.arc_map.specs.FlatRecords.{record_at, LiesIn}
-use Rattle.arc_map.specs.Records.{Record}
 
 -- a part of the list stays where more is added at its end
 slice_range-append : (xs more : List ℕ) (a b : ℕ) → a ≤ b → b ≤ length xs → slice_range (xs ++ more) a b ≡ slice_range xs a b

@@ -7,3 +7,6 @@ pub mod Alive
 pub mod Cutting
 pub mod Reading
 pub mod Listing
+pub mod Ending
+pub mod Rejoining
+pub mod Finishing

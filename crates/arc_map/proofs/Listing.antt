@@ -1,5 +1,5 @@
 -- Lists that stand beside places in a table: what is found there, and what changes where a place or a number is added.
-use Rattle.std.proofs.Common.{◌≡◌, ◌⊎◌, ◌∙◌, ℕ, zero, suc, ◌<◌, Bool, true, false, ◌&&◌, ◌||◌, cond, List, [], ◌∷◌, ◌++◌, length, get_or, set, refl, sym, ap, subst, inl, inr, arith, Decides, Some, position}
+use Rattle.std.proofs.Common.{◌≡◌, ◌⊎◌, ◌∙◌, ℕ, zero, suc, ◌<◌, Bool, true, false, ◌&&◌, ◌||◌, cond, List, [], ◌∷◌, ◌++◌, length, get_or, set, refl, sym, ap, subst, inl, inr, arith, Some, position}
 use Rattle.std.specs.Ordering.{int_eq}
 use Rattle.std.specs.List.{list_any}
 use Rattle.std.proofs.lemmas.Bool.{false≢true}
@@ -32,15 +32,15 @@ same_only_if p q e =
     let y = (Decides-int_eq p.y q.y).1 (ap (λ (v : Place). v.y) e) in
     rw (x, y)
 
-either : (b : Bool) → (b ≡ true) ⊎ (b ≡ false)
+pub either : (b : Bool) → (b ≡ true) ⊎ (b ≡ false)
 either true = inl refl
 either false = inr refl
 
 pub compared_places : (p q : Place) → Same p q
 compared_places p q =
     elim (either (is_same p q)) [
-      inl alike ↦ Yes alike (same_if p q alike)
-    | inr unlike ↦ No unlike (λ e. false≢true (sym unlike ∙ same_only_if p q e))
+      | inl alike ↦ Yes alike (same_if p q alike)
+      | inr unlike ↦ No unlike (λ e. false≢true (sym unlike ∙ same_only_if p q e))
     ]
 
 -- ---- what is found
@@ -50,8 +50,8 @@ listed-absent [] lists p none = refl
 listed-absent (q ∷ places) [] p none = refl
 listed-absent (q ∷ places) (numbers ∷ lists) p none =
     elim (compared_places p q) [
-      Yes alike e ↦ absurd (false≢true (sym none ∙ ap (λ b. b || list_any (is_same p) places) alike))
-    | No unlike e ↦ ap (λ b. cond b numbers (listed places lists p)) unlike ∙ listed-absent places lists p (sym (ap (λ b. b || list_any (is_same p) places) unlike) ∙ none)
+      | Yes alike e ↦ absurd (false≢true (sym none ∙ ap (λ b. b || list_any (is_same p) places) alike))
+      | No unlike e ↦ ap (λ b. cond b numbers (listed places lists p)) unlike ∙ listed-absent places lists p (sym (ap (λ b. b || list_any (is_same p) places) unlike) ∙ none)
     ]
 
 -- the place stands at this index, and at none before it
@@ -82,8 +82,8 @@ listed-at (q ∷ places) (numbers ∷ lists) place (suc at) same stands =
 pub listed-new_place : (places : List Place) (lists : List (List ℕ)) (place : Place) → length lists ≡ length places → (p : Place) → listed (places ++ place ∷ []) (lists ++ [] ∷ []) p ≡ listed places lists p
 listed-new_place [] [] place same p =
     elim (compared_places p place) [
-      Yes alike e ↦ ap (λ b. cond b [] []) alike
-    | No unlike e ↦ ap (λ b. cond b [] []) unlike
+      | Yes alike e ↦ ap (λ b. cond b [] []) alike
+      | No unlike e ↦ ap (λ b. cond b [] []) unlike
     ]
 listed-new_place [] (numbers ∷ lists) place same p = absurd (omega arith)
 listed-new_place (q ∷ places) [] place same p = absurd (omega arith)
@@ -96,40 +96,40 @@ listed-set [] lists place at new same stands p = let inside = stands.inside in a
 listed-set (q ∷ places) [] place at new same stands p = absurd (omega arith)
 listed-set (q ∷ places) (numbers ∷ lists) place zero new same stands p =
     elim (compared_places place q) [
-      Yes alike e ↦ elim (compared_places p q) [
-        Yes p_alike p_is ↦
-          ap (λ b. cond b new (listed places lists p)) p_alike ∙ sym (ap (λ b. cond b new (cond (is_same p q) numbers (listed places lists p))) (subst (λ r. is_same p r ≡ true) (sym e) p_alike))
-      | No p_unlike p_is ↦
-          ap (λ b. cond b new (listed places lists p)) p_unlike ∙ sym (ap (λ b. cond b new (cond (is_same p q) numbers (listed places lists p))) (subst (λ r. is_same p r ≡ false) (sym e) p_unlike) ∙ ap (λ b. cond b numbers (listed places lists p)) p_unlike)
+      | Yes alike e ↦ elim (compared_places p q) [
+        | Yes p_alike p_is ↦
+            ap (λ b. cond b new (listed places lists p)) p_alike ∙ sym (ap (λ b. cond b new (cond (is_same p q) numbers (listed places lists p))) (subst (λ r. is_same p r ≡ true) (sym e) p_alike))
+        | No p_unlike p_is ↦
+            ap (λ b. cond b new (listed places lists p)) p_unlike ∙ sym (ap (λ b. cond b new (cond (is_same p q) numbers (listed places lists p))) (subst (λ r. is_same p r ≡ false) (sym e) p_unlike) ∙ ap (λ b. cond b numbers (listed places lists p)) p_unlike)
       ]
-    | No unlike e ↦ absurd (false≢true (sym unlike ∙ stands.there q))
+      | No unlike e ↦ absurd (false≢true (sym unlike ∙ stands.there q))
     ]
 listed-set (q ∷ places) (numbers ∷ lists) place (suc at) new same stands p =
     let rest = listed-set places lists place at new (omega arith) (rest_stands q places place at stands) p in
     let other = stands.first 0 q (omega arith) in
     elim (compared_places p q) [
-      Yes alike p_is ↦
-        elim (compared_places p place) [
-          Yes p_alike e ↦ absurd (false≢true (sym other ∙ subst (λ r. is_same r q ≡ true) e alike))
-        | No p_unlike e ↦ ap (λ b. cond b numbers (listed places (set lists at new) p)) alike ∙ sym (ap (λ b. cond b new (cond (is_same p q) numbers (listed places lists p))) p_unlike ∙ ap (λ b. cond b numbers (listed places lists p)) alike)
-        ]
-    | No unlike p_is ↦
-        ap (λ b. cond b numbers (listed places (set lists at new) p)) unlike ∙ rest ∙ sym (ap (λ b. cond (is_same p place) new (cond b numbers (listed places lists p))) unlike)
+      | Yes alike p_is ↦
+          elim (compared_places p place) [
+            | Yes p_alike e ↦ absurd (false≢true (sym other ∙ subst (λ r. is_same r q ≡ true) e alike))
+            | No p_unlike e ↦ ap (λ b. cond b numbers (listed places (set lists at new) p)) alike ∙ sym (ap (λ b. cond b new (cond (is_same p q) numbers (listed places lists p))) p_unlike ∙ ap (λ b. cond b numbers (listed places lists p)) alike)
+          ]
+      | No unlike p_is ↦
+          ap (λ b. cond b numbers (listed places (set lists at new) p)) unlike ∙ rest ∙ sym (ap (λ b. cond (is_same p place) new (cond b numbers (listed places lists p))) unlike)
     ]
 
 -- a number is put at the end of the list of one place
 pub listed-added : (places : List Place) (lists : List (List ℕ)) (place : Place) (at : ℕ) (old : List ℕ) (number : ℕ) → length lists ≡ length places → StandsAt places place at → get_or lists at [] ≡ old → (p : Place) → listed places (set lists at (old ++ number ∷ [])) p ≡ cond (is_same p place) (listed places lists p ++ number ∷ []) (listed places lists p)
 listed-added places lists place at old number same stands is p =
     elim (compared_places p place) [
-      Yes alike e ↦
-        let here = listed-at places lists place at same stands ∙ is in
-        listed-set places lists place at (old ++ number ∷ []) same stands p
-        ∙ ap (λ b. cond b (old ++ number ∷ []) (listed places lists p)) alike
-        ∙ sym (ap (λ b. cond b (listed places lists p ++ number ∷ []) (listed places lists p)) alike ∙ ap (λ ns. ns ++ number ∷ []) (ap (listed places lists) e ∙ here))
-    | No unlike e ↦
-        listed-set places lists place at (old ++ number ∷ []) same stands p
-        ∙ ap (λ b. cond b (old ++ number ∷ []) (listed places lists p)) unlike
-        ∙ sym (ap (λ b. cond b (listed places lists p ++ number ∷ []) (listed places lists p)) unlike)
+      | Yes alike e ↦
+          let here = listed-at places lists place at same stands ∙ is in
+          listed-set places lists place at (old ++ number ∷ []) same stands p
+          ∙ ap (λ b. cond b (old ++ number ∷ []) (listed places lists p)) alike
+          ∙ sym (ap (λ b. cond b (listed places lists p ++ number ∷ []) (listed places lists p)) alike ∙ ap (λ ns. ns ++ number ∷ []) (ap (listed places lists) e ∙ here))
+      | No unlike e ↦
+          listed-set places lists place at (old ++ number ∷ []) same stands p
+          ∙ ap (λ b. cond b (old ++ number ∷ []) (listed places lists p)) unlike
+          ∙ sym (ap (λ b. cond b (listed places lists p ++ number ∷ []) (listed places lists p)) unlike)
     ]
 
 pub stands-position : (places : List Place) (place : Place) (at : ℕ) → position (is_same place) places ≡ Some at → StandsAt places place at

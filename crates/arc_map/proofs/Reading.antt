@@ -1,19 +1,17 @@
 -- The chains of a map as they are read into memory.
-use Rattle.std.proofs.Common.{◌≡◌, ◌≢◌, ◌∙◌, ℕ, zero, suc, ◌+◌, ◌-◌, ◌<◌, ◌≤◌, List, [], ◌∷◌, ◌++◌, All, AllPairs, map, length, get_or, slice_index, slice_range, take, drop, refl, sym, ap, subst, arith, add-one, length-drop}
+use Rattle.std.proofs.Common.{◌≡◌, ◌∙◌, ℕ, zero, suc, ◌+◌, ◌-◌, ◌<◌, List, [], ◌∷◌, ◌++◌, All, map, length, get_or, slice_range, take, drop, refl, sym, ap, arith, length-drop}
 use Rattle.std.specs.List.{AllByRecursion, AllZip, AllAdjacentBelow, range_with_len}
-use Rattle.std.specs.List.Sorted.{IsStrictlyIncreasing}
 use Rattle.std.proofs.lemmas.List.{ext_get_or, get_or-take, get_or-drop, get_or-map, length-map, length-take-le}
 use Rattle.std.proofs.lemmas.List.FromFn.{length-range_with_len, get_or-range_with_len}
 use Rattle.std.proofs.lemmas.List.Elements.{All-head, All-tail}
 use Rattle.std.proofs.lemmas.Simd.{map-map}
-use Rattle.grid_exact.specs.Geometry.{Place}
 use Rattle.grid_exact.specs.Walks.{end_of}
 use Rattle.arc_map.specs.Map.{Map}
 use Rattle.arc_map.specs.Vertices.{Vertex, places}
-use Rattle.arc_map.specs.Chains.{Chain, chain_places}
+use Rattle.arc_map.specs.Chains.{chain_places}
 use Rattle.arc_map.specs.Arranged.{arc_at, position_at, nowhere}
 use Rattle.arc_map.specs.Work.{vertex_in, chain_in, LiesInArc}
-use Rattle.arc_map.specs.Live.{numbered, live_chain, IsLive, IsRead, SpansChain, AreJoined}
+use Rattle.arc_map.specs.Live.{live_chain, IsLive, IsRead, SpansChain, AreJoined}
 use Rattle.arc_map.specs.declared.refs.ChainRef.{ChainRef}
 use Rattle.arc_map.specs.declared.work.LiveChain.{LiveChain}
 use Rattle.arc_map.proofs.Cutting.{IsRun, AreLinked, distinct_places}
@@ -57,9 +55,9 @@ positions_read m r lies =
     let count : length (take n rest) ≡ n = length-take-le n rest (omega arith) in
     ext_get_or nowhere (take n rest) (map (position_at m r.arc) (numbers_of r)) (count ∙ sym (length-map (numbers_of r) (position_at m r.arc) ∙ numbers_count r))
     (λ k below.
-      let inside : k < n = omega arith in
-      get_or-take n rest k nowhere inside ∙ get_or-drop r.«from» (arc_at m r.arc) k nowhere
-      ∙ sym (get_or-map (position_at m r.arc) (numbers_of r) k 0 nowhere (omega (arith, numbers_count r)) ∙ ap (position_at m r.arc) (number_at r k inside)))
+    let inside : k < n = omega arith in
+    get_or-take n rest k nowhere inside ∙ get_or-drop r.«from» (arc_at m r.arc) k nowhere
+    ∙ sym (get_or-map (position_at m r.arc) (numbers_of r) k 0 nowhere (omega (arith, numbers_count r)) ∙ ap (position_at m r.arc) (number_at r k inside)))
 
 places_of_chain_in : (m : Map) (r : ChainRef) → r.«from» < r.to → chain_places (chain_in m r) ≡ map (position_at m r.arc) (numbers_of r)
 places_of_chain_in m r edge =
@@ -74,6 +72,7 @@ live_read m r c lies run read =
     record {
       lies = rw read.place lies;
       spans = rw (read.place, read.numbers) (spans_read r lies.edge);
+      short = rw read.numbers (omega (arith, numbers_count r, run.short, length-map (range_with_len (r.«from» + 1) (r.to - r.«from»)) (vertex_in m r.arc), length-range_with_len (r.«from» + 1) (r.to - r.«from»)));
       positions = rw (read.place, read.numbers) positions;
       distinct = rw (positions ∙ sym (places_of_chain_in m r lies.edge)) distinct;
     }
@@ -123,8 +122,8 @@ joined_refs m (r ∷ s ∷ rs) lie linked =
     let here = All-head (LiesInArc m) r (s ∷ rs) lie in
     adjacent-cons (λ a b. a.arc ≡ b.arc → a.to ≡ b.«from») r s rs
     (λ same.
-      let last = end_of_run m r.arc r.«from» (r.to - r.«from») in
-      let at = ap (λ (v : Vertex). v.at) (sym last ∙ linked.0 same) in
-      let edge = here.edge in
-      omega arith)
+    let last = end_of_run m r.arc r.«from» (r.to - r.«from») in
+    let at = ap (λ (v : Vertex). v.at) (sym last ∙ linked.0 same) in
+    let edge = here.edge in
+    omega arith)
     (joined_refs m (s ∷ rs) (All-tail (LiesInArc m) r (s ∷ rs) lie) linked.1)

@@ -1,5 +1,5 @@
 -- A chain of numbered vertices, and what is left of it where some are kept.
-use Rattle.std.proofs.Common.{◌≡◌, ◌≢◌, ◌∙◌, ℕ, suc, ◌+◌, ◌-◌, ◌<◌, ◌≤◌, List, [], ◌∷◌, inl, inr, All, AllPairs, map, length, get_or, slice_index, drop, refl, sym, ap, arith, subst, rules}
+use Rattle.std.proofs.Common.{◌≡◌, ◌≢◌, ◌∙◌, ℕ, suc, ◌+◌, ◌-◌, ◌<◌, ◌≤◌, List, [], ◌∷◌, inl, inr, AllPairs, map, length, get_or, slice_index, drop, refl, sym, ap, arith}
 use Rattle.std.proofs.lemmas.List.{get_or-map, get_or_default, length-map, drop-map, get_or-drop}
 use Rattle.std.proofs.lemmas.Bool.{cases_lt}
 use Rattle.std.proofs.lemmas.List.Kept.{AllPairs-from_increasing}
@@ -7,8 +7,8 @@ use Rattle.std.proofs.lemmas.Simd.{map-map}
 use Rattle.std.specs.List.Sorted.{IsStrictlyIncreasing}
 use Rattle.grid_exact.specs.Geometry.{Place}
 use Rattle.arc_map.specs.Map.{Map}
-use Rattle.arc_map.specs.Vertices.{Vertex, places}
-use Rattle.arc_map.specs.Chains.{Chain, chain_places}
+use Rattle.arc_map.specs.Vertices.{places}
+use Rattle.arc_map.specs.Chains.{chain_places}
 use Rattle.arc_map.specs.Paths.{vertices_of, vertex_at, vertices_at}
 use Rattle.arc_map.specs.Arranged.{position_at}
 use Rattle.arc_map.specs.Work.{vertex_in, AreKeptIn}
@@ -56,12 +56,12 @@ kept_below m r numbers kept several keep k d below =
 kept_several : (m : Map) (r : ChainRef) (numbers kept : List ℕ) → 2 ≤ length numbers → AreKeptIn (numbered m r numbers) kept → 2 ≤ length kept
 kept_several m r numbers kept several keep =
     elim (cases_lt 1 (length kept)) [
-      inl more ↦ omega arith
-    | inr one ↦
-        let only : length kept - 1 ≡ 0 = omega arith in
-        let last = keep.last in
-        let same = rw only at last in
-        absurd (omega (arith, same, keep.first, rest_count m r numbers))
+      | inl more ↦ omega arith
+      | inr one ↦
+          let only : length kept - 1 ≡ 0 = omega arith in
+          let last = keep.last in
+          let same = rw only at last in
+          absurd (omega (arith, same, keep.first, rest_count m r numbers))
     ]
 
 -- the numbers of the kept vertices span the chain
@@ -73,11 +73,11 @@ kept_spans m r numbers kept spans keep =
     let within = kept_below m r numbers kept spans.several keep in
     record {
       rising = λ k below.
-        let inside : k + 1 < length kept = omega (arith, count) in
-        let here = get_or-map number kept k 0 0 (omega arith) in
-        let next = get_or-map number kept (k + 1) 0 0 inside in
-        let less = AllPairs-from_increasing numbers spans.rising (get_or kept k 0) (get_or kept (k + 1) 0) 0 (keep.rising k inside) (within (k + 1) 0 inside) in
-        omega (arith, here, next, less);
+          let inside : k + 1 < length kept = omega (arith, count) in
+          let here = get_or-map number kept k 0 0 (omega arith) in
+          let next = get_or-map number kept (k + 1) 0 0 inside in
+          let less = AllPairs-from_increasing numbers spans.rising (get_or kept k 0) (get_or kept (k + 1) 0) 0 (keep.rising k inside) (within (k + 1) 0 inside) in
+          omega (arith, here, next, less);
       several = omega (arith, count, several);
       first = get_or-map number kept 0 0 0 (omega (arith, several)) ∙ ap number keep.first ∙ spans.first;
       last = ap (λ n. get_or (map number kept) (n - 1) 0) count ∙ get_or-map number kept (length kept - 1) 0 0 (omega (arith, several)) ∙ ap number (keep.last ∙ rest_count m r numbers) ∙ spans.last;
@@ -103,6 +103,6 @@ kept_rest m r numbers kept some first within =
     ap (map (vertex_in m r.arc)) (drop-map (λ at. get_or numbers at 0) 1 kept)
     ∙ map-map (vertex_in m r.arc) (λ at. get_or numbers at 0) (drop 1 kept)
     ∙ map_same (λ at. vertex_in m r.arc (get_or numbers at 0)) (λ at. vertex_at (numbered m r numbers) at) (drop 1 kept) (λ k below.
-      let place : get_or (drop 1 kept) k 0 ≡ get_or kept (1 + k) 0 = get_or-drop 1 kept k 0 in
-      let inside = within (1 + k) 0 (omega (arith, length_rest kept)) in
-      sym (vertex_at_numbered m r numbers (get_or (drop 1 kept) k 0) some first (rw place inside)))
+    let place : get_or (drop 1 kept) k 0 ≡ get_or kept (1 + k) 0 = get_or-drop 1 kept k 0 in
+    let inside = within (1 + k) 0 (omega (arith, length_rest kept)) in
+    sym (vertex_at_numbered m r numbers (get_or (drop 1 kept) k 0) some first (rw place inside)))

@@ -1,5 +1,5 @@
 -- Which chains end at a place.
-use Rattle.std.specs.Prelude.{◌<◌, ◌↔◌, ℕ, Bool, ◌&&◌, List, [], ◌∷◌, ◌++◌, if◌then◌else◌, length, Contains}
+use Rattle.std.specs.Prelude.{◌<◌, ◌↔◌, ℕ, Bool, ◌&&◌, List, [], ◌∷◌, if◌then◌else◌, length, Contains}
 use Rattle.std.specs.Ordering.{int_eq}
 use Rattle.std.specs.List.Sorted.{IsStrictlyIncreasing}
 use Rattle.grid_exact.specs.Geometry.{Place}

@@ -1,10 +1,11 @@
 -- How the chains of a map at work lie in memory: for each the numbers of its vertices in the arc as read, and
 -- their positions.
-use Rattle.std.specs.Prelude.{◌≡◌, ◌≢◌, ◌+◌, ◌-◌, ◌<◌, ◌≤◌, ◌^◌, ℕ, List, map, drop, length, slice_index, slice_range, All, AllPairs}
+use Rattle.std.specs.Prelude.{◌≡◌, ◌≢◌, ◌+◌, ◌-◌, ◌≤◌, ◌^◌, ℕ, List, map, drop, length, slice_index, slice_range, All, AllPairs}
 use Rattle.std.specs.List.{AllAdjacentBelow, range_with_len}
 use Rattle.std.specs.List.Sorted.{IsStrictlyIncreasing}
 use Rattle.arc_map.specs.Map.{Map}
 use Rattle.arc_map.specs.Chains.{Chain}
+use Rattle.arc_map.specs.Arcs.{most_edges}
 use Rattle.arc_map.specs.Arranged.{arc_at, position_at}
 use Rattle.arc_map.specs.Work.{Work, vertex_in, LiesInArc}
 use Rattle.arc_map.specs.declared.refs.ChainRef.{ChainRef}
@@ -37,6 +38,7 @@ pub record SpansChain (r : ChainRef) (numbers : List ℕ) : Type 0 where
 pub record IsLive (m : Map) (c : LiveChain) : Type 0 where
   pub lies : LiesInArc m c.place
   pub spans : SpansChain c.place c.numbers.items
+  pub short : length c.numbers.items ≤ most_edges + 1
   pub positions : c.vertices.items ≡ map (position_at m c.place.arc) c.numbers.items
   pub distinct : AllPairs (λ p q. p ≢ q) c.vertices.items
 

@@ -1,5 +1,5 @@
 -- What a run records of its chains.
-use Rattle.std.specs.Prelude.{◌+◌, ◌-◌, ◌≤◌, ℕ, List, [], ◌∷◌, ◌++◌, length}
+use Rattle.std.specs.Prelude.{◌-◌, ◌≤◌, ℕ, List, [], ◌∷◌, ◌++◌, length}
 
 -- the record of a chain: its arc, its first position there, the places of the kept vertices in the
 -- chain, and for each vertex the least number of allowed steps to the last

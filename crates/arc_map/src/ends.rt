@@ -30,6 +30,22 @@ impl Model for EndTable {
 }
 
 impl EndTable {
+    /// The table of all chain ends. The only error is want of memory.
+    pub fn build(alloc: Global, work: &WorkMap) -> Result<EndTable, NoMemory>
+        ensures { IfOk result (IsEndTable work.now.chains) }
+    {
+        let mut table = EndTable {
+            places: IndexSet::new(alloc),
+            lists: Vec::new(alloc),
+        };
+        for k in 0..work.chain_count() {
+            let chain = work.chain(k);
+            table.add(alloc, chain[0], k)?;
+            table.add(alloc, chain[chain.len() - 1], k)?;
+        }
+        Ok(table)
+    }
+
     /// The chains with an end at `p`, rising, each once.
     pub fn chains_at(&self, p: Point) -> &[u32]
         ensures { result.now ≡ listed self.now.places self.now.lists p }

@@ -1,9 +1,12 @@
 //! A map at work: its chains as they are now, each of which can be thinned in place.
-ghost use Rattle.std.specs.Prelude.{◌≡◌, ◌+◌, ◌-◌, ◌<◌, ◌≤◌, ◌^◌, All, IfOk, length, map, slice_get, slice_index_or};
+ghost use Rattle.std.specs.Prelude.{◌≡◌, ◌≢◌, ◌+◌, ◌-◌, ◌<◌, ◌≤◌, ◌^◌, ◌++◌, All, AllPairs, IfOk, drop, length, map, slice_get, slice_index_or, take};
 ghost use Rattle.std.specs.List.Sorted.{IsStrictlyIncreasing};
+ghost use Rattle.arc_map.specs.Arcs.{map_now};
 ghost use Rattle.arc_map.specs.Chains.{chain_at, chain_places};
 ghost use Rattle.std.specs.List.{range_with_len};
+ghost use Rattle.arc_map.specs.Ends.{EndLists, IsEndTable};
 ghost use Rattle.arc_map.specs.Live.{IsRead};
+ghost use Rattle.arc_map.specs.Rejoin.{run_of, tails, rejoined};
 ghost use Rattle.arc_map.specs.Work.{Work, work_of, LiesInArc, AreChainsIn, AreKeptIn, thinned_work};
 
 use crate::map::ArcMap;
@@ -71,6 +74,8 @@ impl WorkMap {
         requires { k < length self.now.chains }
         ensures places { result.now ≡ chain_places (chain_at self.now.chains k) }
         ensures several { 2 ≤ length result.now }
+        ensures short { length result.now ≤ 1024 }
+        ensures distinct { AllPairs (λ p q. p ≢ q) result.now }
     {
         self.chains[k as usize].vertices.as_slice()
     }
@@ -103,12 +108,62 @@ impl WorkMap {
     pub fn thin(&mut self, k: u32, kept: &[u32])
         requires chain { k < length self.old.chains }
         requires kept { AreKeptIn (chain_at self.old.chains k) kept.now }
-        ensures { self.new ≡ thinned_work self.old k kept.now }
+        ensures thinned { self.new ≡ thinned_work self.old k kept.now }
+        // A table of chain ends stays right.
+        ensures ends { (table : EndLists) → IsEndTable self.old.chains table → IsEndTable self.new.chains table }
     {
         let chain = &mut self.chains[k as usize];
         keep(&mut chain.numbers, kept);
         keep(&mut chain.vertices, kept);
     }
+
+    /// The map as it is now: its arcs are those that the chains make up, and the rest is as in the map
+    /// read.
+    pub fn finish(self) -> ArcMap
+        ensures { result ≡ map_now self.read self.chains }
+    {
+        let WorkMap { base, chains } = self;
+        let (mut arcs, points, polygons, coded) = base.into_parts();
+        let mut next = 0;
+        for number in 0..arcs.len() {
+            next = rejoin(&mut arcs[number], number as u32, &chains, next);
+        }
+        ArcMap::new(arcs, points, polygons, coded)
+    }
+}
+
+// Writes the chains of the arc, of which the first is the chain number `start`, into the arc, and gives the
+// number of the first chain behind them.
+fn rejoin(arc: &mut Vec<Point>, number: u32, chains: &[LiveChain], start: usize) -> usize
+    requires known { start ≤ length chains.now }
+    requires vertices { All (λ c. 2 ≤ length c.vertices.items) chains.now }
+    requires room { 1 + length (tails (run_of number (drop start chains.now))) ≤ length arc.old.items }
+    ensures arc { arc.new.items ≡ rejoined arc.old.items (run_of number (drop start chains.now)) }
+    ensures next { result ≡ start + length (run_of number (drop start chains.now)) }
+{
+    if start == chains.len() || chains[start].place.arc != number {
+        return start;
+    }
+    arc[0] = chains[start].vertices[0];
+    let mut end = 1;
+    let mut next = start;
+    while next < chains.len() && chains[next].place.arc == number {
+        let rest = &chains[next].vertices[1..];
+        write_at(arc, end, rest);
+        end += rest.len();
+        next += 1;
+    }
+    arc.truncate(end);
+    next
+}
+
+// Writes the positions from place `end` on.
+fn write_at(arc: &mut Vec<Point>, end: usize, rest: &[Point])
+    requires { end + length rest.now ≤ length arc.old.items }
+    ensures front { take (end + length rest.now) arc.new.items ≡ take end arc.old.items ++ rest.now }
+    ensures count { length arc.new.items ≡ length arc.old.items }
+{
+    arc[end..end + rest.len()].copy_from_slice(rest);
 }
 
 // The chain at this place of the map.

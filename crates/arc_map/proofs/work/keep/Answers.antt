@@ -1,4 +1,4 @@
-use Rattle.std.proofs.Common.{◌≡◌, ◌<◌, ◌≤◌, length, get_or, arith, rules}
+use Rattle.std.proofs.Common.{◌≡◌, ◌<◌, length, arith, rules}
 use Rattle.arc_map.proofs.Rising.{place-le-number, rising-length}
 use Rattle.arc_map.proofs.Keeping.{front_more, behind_more, all_kept}
 use Rattle.arc_map.proofs.work.keep.Goals as goal

@@ -1,4 +1,3 @@
-use Rattle.std.proofs.Common.{◌≡◌, is_ok, rules}
 use Rattle.std.proofs.lemmas.List.Sorted.{searched}
 use Rattle.arc_map.proofs.Rising.{rising_order, found-contains}
 use Rattle.arc_map.proofs.arc_list.ArcList.has.Goals as goal

@@ -1,6 +1,5 @@
-use Rattle.std.proofs.Common.{◌≡◌, ◌∙◌, ℕ, List, [], ◌∷◌, ◌++◌, Some, map, length, get_or, set, cond, position, sym, ap, subst, arith, rules}
+use Rattle.std.proofs.Common.{◌≡◌, ◌∙◌, [], ◌∷◌, ◌++◌, Some, map, set, cond, position, sym, ap, subst, arith, rules}
 use Rattle.std.proofs.lemmas.List.{length-map, map-set}
-use Rattle.grid_exact.specs.Geometry.{Place}
 use Rattle.arc_map.specs.Ends.{EndLists, is_same, listed}
 use Rattle.arc_map.proofs.Elements.{mapped-at}
 use Rattle.arc_map.proofs.Listing.{stands-position, listed-added}

@@ -1,11 +1,9 @@
-use Rattle.std.proofs.Common.{◌≡◌, ◌∙◌, ◌<◌, ℕ, false, List, [], Some, map, length, get_or, position, sym, ap, subst, arith, rules}
+use Rattle.std.proofs.Common.{◌≡◌, ◌∙◌, false, [], Some, map, position, sym, arith}
 use Rattle.std.specs.List.{list_any}
 use Rattle.std.proofs.lemmas.List.{length-map}
-use Rattle.std.proofs.lemmas.List.Quantifiers.{position-Some}
-use Rattle.grid_exact.specs.Geometry.{Place}
-use Rattle.arc_map.specs.Ends.{EndLists, is_same, listed}
+use Rattle.arc_map.specs.Ends.{is_same}
 use Rattle.arc_map.proofs.Elements.{mapped-at}
-use Rattle.arc_map.proofs.Listing.{StandsAt, stands-position, listed-at, listed-absent}
+use Rattle.arc_map.proofs.Listing.{stands-position, listed-at, listed-absent}
 use Rattle.arc_map.proofs.ends.EndTable.chains_at.Goals as goal
 
 pub returns-in-Some : goal.returns-in-Some

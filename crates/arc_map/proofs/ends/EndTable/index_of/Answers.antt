@@ -1,8 +1,5 @@
-use Rattle.std.proofs.Common.{◌≡◌, ◌∙◌, ℕ, List, [], ◌∷◌, ◌++◌, map, length, sym, ap, subst, arith, rules}
+use Rattle.std.proofs.Common.{◌≡◌, ◌∙◌, [], ◌∷◌, ◌++◌, map, ap, arith, rules}
 use Rattle.std.proofs.lemmas.List.{length-map, map-append}
-use Rattle.std.proofs.lemmas.Grind.{common_steps}
-use Rattle.grid_exact.specs.Geometry.{Place}
-use Rattle.arc_map.specs.Ends.{EndLists, listed}
 use Rattle.arc_map.proofs.Listing.{listed-new_place}
 use Rattle.arc_map.proofs.ends.EndTable.index_of.Goals as goal
 

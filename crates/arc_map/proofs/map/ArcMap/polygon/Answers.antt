@@ -1,4 +1,4 @@
-use Rattle.std.proofs.Common.{◌<◌, ◌≤◌, ◌^◌, All, map, length, arith, subst, sym}
+use Rattle.std.proofs.Common.{◌<◌, All, map, length, arith, subst, sym}
 use Rattle.arc_map.specs.Map.{Map}
 use Rattle.arc_map.proofs.Elements.{of_mapped, mapped_within_sum}
 use Rattle.arc_map.proofs.map.ArcMap.polygon.Goals as goal

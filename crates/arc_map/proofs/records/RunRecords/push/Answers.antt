@@ -1,5 +1,4 @@
-use Rattle.std.proofs.Common.{◌≡◌, ◌∙◌, ◌+◌, ◌++◌, length, rules, arith}
-use Rattle.std.proofs.lemmas.Grind.{common_steps}
+use Rattle.std.proofs.Common.{◌≡◌, ◌+◌, ◌++◌, length, rules}
 use Rattle.arc_map.proofs.Flat.{records-pushed}
 use Rattle.arc_map.proofs.records.RunRecords.push.Goals as goal
 

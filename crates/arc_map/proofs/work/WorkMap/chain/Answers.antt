@@ -1,9 +1,10 @@
-use Rattle.std.proofs.Common.{◌≡◌, ◌∙◌, ◌<◌, map, length, ap, sym, subst, arith}
+use Rattle.std.proofs.Common.{◌<◌, length, sym, subst, arith}
 use Rattle.std.proofs.lemmas.List.{length-map}
-use Rattle.arc_map.specs.Chains.{chain_at, chain_places, no_chain}
+use Rattle.arc_map.specs.Chains.{no_chain}
 use Rattle.arc_map.specs.Work.{Work}
 use Rattle.arc_map.specs.Live.{live_chain, IsLive}
 use Rattle.arc_map.proofs.Elements.{of_item, mapped-at}
+use Rattle.arc_map.proofs.Alive.{count_alike}
 use Rattle.arc_map.proofs.Thinning.{numbered_places}
 use Rattle.arc_map.proofs.work.WorkMap.chain.Goals as goal
 
@@ -17,3 +18,20 @@ returns-clause-places c =
     let is = of_item (IsLive m) live c.args.k x here c.index.ensures c.self.invariant.chains in
     let same = mapped-at (live_chain m) live c.args.k x no_chain here c.index.ensures in
     rw (c.as_slice.ensures.value, is.positions, ← c.self.view_is, same) (sym (numbered_places m x.place x.numbers.items (omega (arith, is.spans.several)) is.spans.first))
+
+pub returns-clause-short : goal.returns-clause-short
+returns-clause-short c =
+    let m = c.self.inside.base in
+    let live = c.self.inside.chains.items in
+    let within = subst (λ (w : Work). c.args.k < length w.chains) (sym c.self.view_is) c.requires in
+    let here : c.args.k < length live = omega (arith, within, length-map live (live_chain m)) in
+    let is = of_item (IsLive m) live c.args.k c.index.result.now here c.index.ensures c.self.invariant.chains in
+    rw c.as_slice.ensures.value (omega (arith, is.short, count_alike m c.index.result.now is))
+
+pub returns-clause-distinct : goal.returns-clause-distinct
+returns-clause-distinct c =
+    let m = c.self.inside.base in
+    let live = c.self.inside.chains.items in
+    let within = subst (λ (w : Work). c.args.k < length w.chains) (sym c.self.view_is) c.requires in
+    let here : c.args.k < length live = omega (arith, within, length-map live (live_chain m)) in
+    rw c.as_slice.ensures.value (of_item (IsLive m) live c.args.k c.index.result.now here c.index.ensures c.self.invariant.chains).distinct

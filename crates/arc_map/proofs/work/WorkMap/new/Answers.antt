@@ -1,13 +1,13 @@
-use Rattle.std.proofs.Common.{◌≡◌, ◌∙◌, ◌+◌, ◌<◌, ◌≤◌, ◌^◌, ℕ, List, [], ◌∷◌, ◌++◌, All, map, length, get_or, take, sum_by, ap, sym, refl, subst, arith, rules}
+use Rattle.std.proofs.Common.{◌≡◌, ◌∙◌, ◌<◌, ◌≤◌, ◌^◌, ℕ, List, map, length, get_or, take, sum_by, ap, subst, arith, rules}
 use Rattle.std.specs.List.{AllZip}
 use Rattle.std.proofs.lemmas.List.{take_more, take_all, length-map}
 use Rattle.std.proofs.lemmas.List.Elements.{All-from_recursion}
 use Rattle.arc_map.specs.Map.{Map}
 use Rattle.grid_exact.specs.declared.frame.Frame.TheVariants.{Plain}
-use Rattle.arc_map.specs.Work.{Work, chain_in, work_of, AreChainsIn}
+use Rattle.arc_map.specs.Work.{chain_in, AreChainsIn}
 use Rattle.arc_map.specs.declared.refs.ChainRef.{ChainRef}
 use Rattle.arc_map.specs.declared.work.LiveChain.{LiveChain}
-use Rattle.arc_map.specs.Live.{IsRead, IsLive, live_chain}
+use Rattle.arc_map.specs.Live.{IsRead, IsLive}
 use Rattle.arc_map.proofs.Cutting.{runs_of_arcs, count_of_arcs, linked_of_arcs}
 use Rattle.arc_map.proofs.Reading.{all_live, refs_read, chains_read, joined_refs, zipped-push}
 use Rattle.arc_map.proofs.work.WorkMap.new.Goals as goal

@@ -1,4 +1,4 @@
-use Rattle.std.proofs.Common.{◌≡◌, ◌∙◌, ◌<◌, ℕ, List, All, map, length, get_or, set, drop, refl, ap, sym, subst, arith}
+use Rattle.std.proofs.Common.{◌≡◌, ◌∙◌, ◌<◌, ℕ, List, map, length, get_or, set, drop, refl, ap, sym, subst, arith}
 use Rattle.std.proofs.lemmas.List.{length-map, length-set, map-set}
 use Rattle.std.proofs.lemmas.List.Elements.{All-set}
 use Rattle.std.proofs.Math.Seq.{map-set_same}
@@ -11,6 +11,8 @@ use Rattle.arc_map.specs.Map.{Map}
 use Rattle.arc_map.specs.declared.refs.ChainRef.{ChainRef}
 use Rattle.arc_map.specs.declared.work.LiveChain.{LiveChain}
 use Rattle.arc_map.specs.declared.work.WorkMap.TheInside.{Inside}
+use Rattle.arc_map.specs.Ends.{IsEndTable}
+use Rattle.arc_map.proofs.Ending.{ends_stay}
 use Rattle.arc_map.proofs.Elements.{of_item, mapped-at}
 use Rattle.arc_map.proofs.Alive.{IsThinned, places_below, count_alike, live_after, chain_after}
 use Rattle.arc_map.proofs.work.WorkMap.thin.Goals as goal
@@ -66,8 +68,8 @@ invariant_of-self c =
       chains = All-set (IsLive w.base) w.chains.items c.args.k y live c.self.invariant.chains;
     }
 
-pub returns : goal.returns
-returns c =
+pub returns-clause-thinned : goal.returns-clause-thinned
+returns-clause-thinned c =
     let w = c.self.inside in
     let x = c.index_mut-chain.result.now in
     let y : LiveChain = record { place = x.place; numbers = c.keep.new.items; vertices = c.keep-2.new.items } in
@@ -77,6 +79,10 @@ returns c =
     let place = ap (λ (v : LiveChain). v.place) c.index_mut-chain.ensures.value in
     let refs = map-set_same (λ (v : LiveChain). v.place) w.chains.items c.args.k y x place in
     let chains : map (live_chain w.base) (set w.chains.items c.args.k y) ≡ thinned (work_in w).chains c.args.k (vertices_at (chain_at (work_in w).chains c.args.k) (drop 1 c.args.kept.now)) =
-      map-set (live_chain w.base) w.chains.items c.args.k y ∙ ap (set (map (live_chain w.base) w.chains.items) c.args.k) (after ∙ sym (ap (λ (v : Chain). record v { rest = vertices_at v (drop 1 c.args.kept.now) }) f.chain)) in
+    map-set (live_chain w.base) w.chains.items c.args.k y ∙ ap (set (map (live_chain w.base) w.chains.items) c.args.k) (after ∙ sym (ap (λ (v : Chain). record v { rest = vertices_at v (drop 1 c.args.kept.now) }) f.chain)) in
     let now : Work = record { read = w.base; refs = map (λ (v : LiveChain). v.place) (set w.chains.items c.args.k y); chains = map (live_chain w.base) (set w.chains.items c.args.k y) } in
     subst (λ (v : Work). now ≡ thinned_work v c.args.k c.args.kept.now) c.self.view_is (same_work w.base refs chains)
+
+pub returns-clause-ends : goal.returns-clause-ends
+returns-clause-ends c = λ table is.
+    subst (λ (v : Work). IsEndTable v.chains table) (sym (returns-clause-thinned c)) (ends_stay c.args.self.now.chains c.args.k c.args.kept.now table c.requires.chain c.requires.kept is)
