@@ -12,8 +12,8 @@ use Rattle.grid_exact.specs.declared.frame.Frame.{Frame}
 use Rattle.grid_exact.specs.declared.frame.Frame.TheVariants.{Plain, Turned}
 use Rattle.grid_exact.proofs.Orders.{then_before, not_before_itself}
 use Rattle.arc_map.specs.Vertices.{Vertex, places}
-use Rattle.arc_map.specs.Walks.{IsMonotone}
-use Rattle.arc_map.specs.Walks.IsMonotone.{Increasing, Decreasing}
+use Rattle.grid_exact.specs.Runs.{IsMonotone}
+use Rattle.grid_exact.specs.Runs.IsMonotone.{Increasing, Decreasing}
 use Rattle.arc_map.specs.Chains.{Chain}
 use Rattle.arc_map.specs.Arcs.{most_edges, vertices_from, IsNextChain, IsCutInto, IsListCutInto, AreChainsOf}
 use Rattle.arc_map.specs.Arcs.IsNextChain.{PlainReaches, TurnedReaches}

@@ -7,7 +7,7 @@ use Rattle.grid_exact.specs.Crossing.{is_crossed}
 use Rattle.grid_exact.specs.Walks.{count_edges, is_odd, end_of, differ}
 use Rattle.arc_map.specs.Map.{Map}
 use Rattle.arc_map.specs.Vertices.{Vertex, places}
-use Rattle.arc_map.specs.Walks.{IsMonotone}
+use Rattle.grid_exact.specs.Runs.{IsMonotone}
 use Rattle.arc_map.specs.Chains.{Chain}
 use Rattle.arc_map.specs.Edges.{Edge, edges_of, EdgesAreArranged}
 

@@ -7,7 +7,7 @@ use Rattle.grid_exact.specs.Crossing.{is_crossed}
 use Rattle.grid_exact.specs.Walks.{EachEdge, count_edges, is_odd, end_of}
 use Rattle.grid_exact.specs.Near.{IsNear}
 use Rattle.arc_map.specs.Vertices.{Vertex, places}
-use Rattle.arc_map.specs.Walks.{IsEdgeOf, IsMonotone}
+use Rattle.grid_exact.specs.Runs.{IsEdgeOf, IsMonotone}
 use Rattle.arc_map.specs.Allowed.{IsAllowed, IsPath}
 use Rattle.arc_map.specs.Clear.{IsClear, IsWithinChain, EachButLast}
 

@@ -3,7 +3,7 @@ use Rattle.std.specs.Prelude.{◌≡◌, false, List, [], ◌∷◌}
 use Rattle.grid_exact.specs.Geometry.{Place, IsOnSegment}
 use Rattle.arc_map.specs.Vertices.{Vertex, MeetLawfully}
 use Rattle.grid_exact.specs.Walks.{EachEdge}
-use Rattle.arc_map.specs.Walks.{EachTwoEdges}
+use Rattle.grid_exact.specs.Runs.{EachTwoEdges}
 
 -- the chain from v along ws is clear: none of its edges clashes with another edge, and no feature point
 -- lies on one of its edges

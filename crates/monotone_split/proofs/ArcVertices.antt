@@ -12,7 +12,7 @@ use Rattle.grid_exact.specs.declared.frame.Frame.{Frame}
 use Rattle.grid_exact.specs.declared.frame.Frame.TheVariants.{Plain, Turned}
 use Rattle.arc_map.specs.Map.{Map}
 use Rattle.arc_map.specs.Vertices.{Vertex, places}
-use Rattle.arc_map.specs.Walks.{IsMonotone}
+use Rattle.grid_exact.specs.Runs.{IsMonotone}
 use Rattle.arc_map.specs.Chains.{Chain}
 use Rattle.arc_map.specs.Arcs.{vertex, is_first, vertices_from, most_edges, IsFurthest, IsNextChain, IsCutInto}
 use Rattle.arc_map.specs.Arcs.IsNextChain.{PlainReaches, TurnedReaches}

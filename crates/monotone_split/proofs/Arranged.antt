@@ -5,7 +5,7 @@ use Rattle.std.proofs.lemmas.Bool.{cases_eq}
 use Rattle.grid_exact.specs.Geometry.{Place, IsOnSegment}
 use Rattle.grid_exact.specs.Walks.{EachEdge}
 use Rattle.arc_map.specs.Vertices.{Vertex, MeetLawfully}
-use Rattle.arc_map.specs.Walks.{IsEdgeOf, EachTwoEdges}
+use Rattle.grid_exact.specs.Runs.{IsEdgeOf, EachTwoEdges}
 use Rattle.arc_map.specs.Chains.{Chain, chain_at, AreChains, IsArrangedBeside}
 use Rattle.arc_map.specs.Edges.{Edge, edges_of, edges_of_all, EachOf, EachTwo, ClashOnlyIfHeld, EdgesAreArranged}
 use Rattle.monotone_split.specs.Laws.{ArrangedByChains}

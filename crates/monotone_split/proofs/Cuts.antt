@@ -4,13 +4,13 @@ use Rattle.grid_exact.specs.declared.frame.Frame.{Frame}
 use Rattle.grid_exact.specs.Geometry.{Place}
 use Rattle.grid_exact.specs.Walks.{EachEdge, end_of}
 use Rattle.arc_map.specs.Vertices.{Vertex, places}
-use Rattle.arc_map.specs.Walks.{IsEdgeOf, IsMonotone}
+use Rattle.grid_exact.specs.Runs.{IsEdgeOf, IsMonotone}
 use Rattle.arc_map.specs.Clear.{IsWithinChain, EachButLast}
 use Rattle.arc_map.specs.Chains.{Chain, no_chain, chain_at, IsOtherEdge, AreChains}
 use Rattle.arc_map.specs.Edges.{Edge, edges_of, edges_of_all, EachOf, EachTwo, EdgesAreArranged}
 use Rattle.arc_map.specs.Arcs.{vertices_from, edges_of_list, edges_of_arcs, IsNextChain, IsCutInto, IsListCutInto, AreChainsOf}
 use Rattle.arc_map.specs.Arcs.IsNextChain.{PlainReaches, TurnedReaches}
-use Rattle.arc_map.specs.Walks.IsMonotone.{Increasing}
+use Rattle.grid_exact.specs.Runs.IsMonotone.{Increasing}
 use Rattle.monotone_split.specs.Laws.{ChainsCutMap}
 use Rattle.monotone_split.proofs.Arranged.{arranged_by_chains, of_both, two_joined}
 use Rattle.monotone_split.proofs.Maps.{but_last_mapped}

@@ -3,7 +3,7 @@ use Rattle.std.proofs.Common.{◌≡◌, inl, inr, false, IsTrue, List, [], ◌�
 use Rattle.grid_exact.specs.Walks.{EachEdge}
 use Rattle.arc_map.specs.Vertices.{Vertex, MayJoin, MeetLawfully}
 use Rattle.arc_map.specs.Vertices.MayJoin.{One, BothEnd}
-use Rattle.arc_map.specs.Walks.{IsEdgeOf}
+use Rattle.grid_exact.specs.Runs.{IsEdgeOf}
 use Rattle.arc_map.specs.Clear.{IsWithinChain, EachButLast}
 use Rattle.arc_map.specs.Chains.{chain_at, IsOtherEdge}
 use Rattle.monotone_split.specs.Laws.{EndOfEdge, DoubleEdgeIsChain}

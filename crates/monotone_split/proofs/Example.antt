@@ -8,10 +8,10 @@ use Rattle.grid_exact.specs.Geometry.IsBefore.{Left}
 use Rattle.grid_exact.specs.Walks.{EachEdge}
 use Rattle.grid_exact.proofs.Segments.{area_of-on}
 use Rattle.arc_map.specs.Vertices.{Vertex, places}
-use Rattle.arc_map.specs.Walks.{IsEdgeOf, IsMonotone}
+use Rattle.grid_exact.specs.Runs.{IsEdgeOf, IsMonotone}
 use Rattle.arc_map.specs.Clear.{IsWithinChain, EachButLast}
 use Rattle.arc_map.specs.Allowed.{IsConsistent}
-use Rattle.arc_map.specs.Walks.IsMonotone.{Increasing}
+use Rattle.grid_exact.specs.Runs.IsMonotone.{Increasing}
 use Rattle.arc_map.specs.Allowed.IsConsistent.{SameSide}
 use Rattle.arc_map.specs.Allowed.IsAllowed.{Shortcut}
 use Rattle.arc_map.specs.Chains.{Chain, chain_at, IsOtherEdge, AreChains, IsClearIn, IsWithinBound, IsPathIn}

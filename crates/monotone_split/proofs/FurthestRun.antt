@@ -10,7 +10,7 @@ use Rattle.grid_exact.specs.declared.frame.Frame.{Frame}
 use Rattle.grid_exact.specs.declared.frame.Frame.TheVariants.{Plain, Turned}
 use Rattle.grid_exact.proofs.Orders.{not_both_ways, not_before_itself}
 use Rattle.arc_map.specs.Map.{IsArc}
-use Rattle.arc_map.specs.Walks.IsMonotone.{Increasing, Decreasing}
+use Rattle.grid_exact.specs.Runs.IsMonotone.{Increasing, Decreasing}
 use Rattle.arc_map.specs.Arcs.{most_edges}
 use Rattle.arc_map.specs.Arranged.{nowhere}
 use Rattle.monotone_split.specs.Cut.{IsRun, IsFurthestRun}

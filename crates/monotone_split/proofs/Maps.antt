@@ -11,7 +11,7 @@ use Rattle.grid_exact.proofs.Walks.{each_edge_mapped}
 use Rattle.arc_map.specs.Vertices.{Vertex, places, MayJoin, MeetLawfully}
 use Rattle.arc_map.specs.Vertices.MayJoin.{One, BothEnd}
 use Rattle.arc_map.specs.Vertices.IsJunction.{Starts, StartAndEnd, EndAndStart, Ends}
-use Rattle.arc_map.specs.Walks.{IsEdgeOf, IsMonotone}
+use Rattle.grid_exact.specs.Runs.{IsEdgeOf, IsMonotone}
 use Rattle.arc_map.specs.Allowed.{IsAllowed, IsPath}
 use Rattle.arc_map.specs.Clear.{IsClear, IsWithinChain, EachButLast}
 use Rattle.arc_map.specs.Chains.{Chain, no_chain, chain_at, IsOtherEdge, AreChains, IsClearIn, IsWithinBound, IsPathIn, thinned, is_crossed_oddly}

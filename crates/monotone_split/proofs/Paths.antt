@@ -14,8 +14,8 @@ use Rattle.grid_exact.proofs.Commons.{start_on, end_is_on}
 use Rattle.arc_map.specs.Vertices.{Vertex, places, MeetLawfully}
 use Rattle.arc_map.specs.Vertices.MayJoin.{One}
 use Rattle.arc_map.specs.Vertices.IsJunction.{EndAndStart}
-use Rattle.arc_map.specs.Walks.{EachTwoEdges, IsMonotone}
-use Rattle.arc_map.specs.Walks.IsMonotone.{Increasing, Decreasing}
+use Rattle.grid_exact.specs.Runs.{EachTwoEdges, IsMonotone}
+use Rattle.grid_exact.specs.Runs.IsMonotone.{Increasing, Decreasing}
 use Rattle.arc_map.specs.Allowed.{IsConsistent, IsAllowed, IsPath}
 use Rattle.arc_map.specs.Allowed.IsConsistent.{AtStart, AtEnd, SameSide}
 use Rattle.arc_map.specs.Allowed.IsAllowed.{Neighbours, Shortcut}

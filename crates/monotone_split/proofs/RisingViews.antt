@@ -11,8 +11,8 @@ use Rattle.grid_exact.proofs.Commons.{on_turned, common_at_start, common_swapped
 use Rattle.grid_exact.proofs.Orders.{not_before_itself}
 use Rattle.grid_exact.proofs.Views.{end_of-map, map-pushed, apart_turned, apart_in_view, rising_in_view, negated_before, plain_view, turned_view, negated_view, view_of_view}
 use Rattle.grid_exact.proofs.Walks.{before_end, each_edge_mapped, end_of-pushed}
-use Rattle.arc_map.specs.Walks.{IsMonotone}
-use Rattle.arc_map.specs.Walks.IsMonotone.{Increasing, Decreasing}
+use Rattle.grid_exact.specs.Runs.{IsMonotone}
+use Rattle.grid_exact.specs.Runs.IsMonotone.{Increasing, Decreasing}
 use Rattle.monotone_split.proofs.Runs.{IsAside, no_common_either_way}
 
 -- ---- walks in a view

@@ -14,8 +14,8 @@ use Rattle.grid_exact.proofs.Orders.{spare, compared, then_before, not_both_ways
 use Rattle.grid_exact.proofs.Orders.Compared.{Before, Same, After}
 use Rattle.grid_exact.proofs.Orders.UpTo.{Earlier, There}
 use Rattle.grid_exact.proofs.Commons.{end_is_on}
-use Rattle.arc_map.specs.Walks.{IsEdgeOf, IsMonotone}
-use Rattle.arc_map.specs.Walks.IsMonotone.{Increasing, Decreasing}
+use Rattle.grid_exact.specs.Runs.{IsEdgeOf, IsMonotone}
+use Rattle.grid_exact.specs.Runs.IsMonotone.{Increasing, Decreasing}
 use Rattle.monotone_split.specs.Sides.{IsSpanned, IsOutside}
 use Rattle.monotone_split.specs.Sides.IsSpanned.{Upwards, Downwards}
 use Rattle.monotone_split.specs.Sides.IsOutside.{Before as OutsideBefore, After as OutsideAfter}

@@ -4,7 +4,7 @@ use Rattle.grid_exact.specs.Geometry.{Place}
 use Rattle.grid_exact.specs.declared.frame.Frame.{Frame}
 use Rattle.grid_exact.specs.declared.frame.Frame.TheVariants.{Plain, Turned}
 use Rattle.arc_map.specs.Map.{Map}
-use Rattle.arc_map.specs.Walks.{IsMonotone}
+use Rattle.grid_exact.specs.Runs.{IsMonotone}
 use Rattle.arc_map.specs.Arcs.{most_edges, vertices_from, IsListCutInto}
 use Rattle.arc_map.specs.Arranged.{arc_at, nowhere}
 use Rattle.arc_map.specs.Work.{chain_in, LiesInArc}

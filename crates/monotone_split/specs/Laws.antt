@@ -6,7 +6,7 @@ use Rattle.grid_exact.specs.Crossing.{is_crossed}
 use Rattle.grid_exact.specs.Walks.{count_edges, is_odd, end_of, differ, IsOff}
 use Rattle.grid_exact.specs.Clash.{Clash, Flags}
 use Rattle.grid_exact.specs.Paths.{LeadsTo}
-use Rattle.arc_map.specs.Walks.{IsEdgeOf, IsMonotone}
+use Rattle.grid_exact.specs.Runs.{IsEdgeOf, IsMonotone}
 use Rattle.arc_map.specs.Map.{Map}
 use Rattle.arc_map.specs.Arcs.{IsMapArrangedBeside, AreChainsOf, AreKept, map_now, is_list_crossed_oddly, is_inside}
 use Rattle.arc_map.specs.Paths.{IsAllowedPair, vertices_at, Step, AreSteps}
