@@ -1,3 +1,4 @@
+-- A kept element is never behind the place that it is moved to.
 use Rattle.std.proofs.Common.{◌≡◌, ◌<◌, length, arith, rules}
 use Rattle.arc_map.proofs.Rising.{place-le-number, rising-length}
 use Rattle.arc_map.proofs.Keeping.{front_more, behind_more, all_kept}

@@ -1,3 +1,4 @@
+-- The front has the kept elements so far, and the rest is as it was.
 use Rattle.std.proofs.Common.{◌≡◌, ◌<◌, ◌≤◌, ℕ, length, get_or}
 use Rattle.arc_map.proofs.work.keep.Given as goal
 

@@ -1,3 +1,4 @@
+-- The numbers are those of the range.
 use Rattle.std.proofs.Common.{◌+◌, ◌-◌, refl}
 use Rattle.std.proofs.lemmas.Iterator.{items_from_collect, YieldsList-from_range}
 use Rattle.arc_map.proofs.work.numbers_between.Goals as goal

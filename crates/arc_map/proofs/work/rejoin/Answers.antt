@@ -1,3 +1,4 @@
+-- One chain more is written behind the positions that are there.
 use Rattle.std.proofs.Common.{◌∙◌, ◌+◌, get_or, take, drop, ap, rules, arith}
 use Rattle.arc_map.specs.Rejoin.{run_of}
 use Rattle.arc_map.proofs.Rejoining.{run_of-next, rest_of, tails-written, tails-length}

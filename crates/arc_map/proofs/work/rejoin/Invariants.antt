@@ -1,3 +1,4 @@
+-- What is written, followed by what is still to be written, is the joined arc.
 use Rattle.std.proofs.Common.{◌≡◌, ◌+◌, ◌-◌, ◌≤◌, ◌++◌, length, take, drop}
 use Rattle.arc_map.specs.Rejoin.{run_of, tails, rejoined}
 use Rattle.arc_map.proofs.work.rejoin.Given as goal

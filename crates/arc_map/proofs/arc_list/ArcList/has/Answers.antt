@@ -1,3 +1,4 @@
+-- The search finds the number exactly where the list has it.
 use Rattle.std.proofs.lemmas.List.Sorted.{searched}
 use Rattle.arc_map.proofs.Rising.{rising_order, found-contains}
 use Rattle.arc_map.proofs.arc_list.ArcList.has.Goals as goal

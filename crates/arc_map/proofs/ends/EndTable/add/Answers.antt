@@ -1,3 +1,4 @@
+-- The list of one place gets a number more.
 use Rattle.std.proofs.Common.{◌≡◌, ◌∙◌, [], ◌∷◌, ◌++◌, Some, map, set, cond, position, sym, ap, subst, arith, rules}
 use Rattle.std.proofs.lemmas.List.{length-map, map-set}
 use Rattle.arc_map.specs.Ends.{EndLists, is_same, listed}

@@ -1,3 +1,4 @@
+-- One chain more is added at its two ends.
 use Rattle.std.proofs.Common.{◌≡◌, ◌∙◌, ◌+◌, [], ◌∷◌, ◌++◌, cond, get_or, sym, ap, subst, rules}
 use Rattle.grid_exact.specs.Walks.{end_of}
 use Rattle.arc_map.specs.Chains.{chain_at}

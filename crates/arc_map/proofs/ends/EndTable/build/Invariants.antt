@@ -1,3 +1,4 @@
+-- Each list has the chains so far that end at its place.
 use Rattle.arc_map.specs.Ends.{listed}
 use Rattle.grid_exact.specs.Geometry.{Place}
 use Rattle.arc_map.proofs.Ending.{AreEndingBelow}

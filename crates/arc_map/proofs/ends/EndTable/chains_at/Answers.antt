@@ -1,3 +1,4 @@
+-- The list is found at the index of the place.
 use Rattle.std.proofs.Common.{◌≡◌, ◌∙◌, false, [], Some, map, position, sym, arith}
 use Rattle.std.specs.List.{list_any}
 use Rattle.std.proofs.lemmas.List.{length-map}

@@ -1,3 +1,4 @@
+-- A new place has an empty list.
 use Rattle.std.proofs.Common.{◌≡◌, ◌∙◌, [], ◌∷◌, ◌++◌, map, ap, arith, rules}
 use Rattle.std.proofs.lemmas.List.{length-map, map-append}
 use Rattle.arc_map.proofs.Listing.{listed-new_place}

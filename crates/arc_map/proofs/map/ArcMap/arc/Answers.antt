@@ -1,3 +1,4 @@
+-- What holds of each arc holds of this one.
 use Rattle.std.proofs.Common.{◌<◌, length, arith, subst, sym}
 use Rattle.arc_map.specs.Map.{IsArc, Map}
 use Rattle.arc_map.proofs.Elements.{of_mapped, mapped_within_sum}

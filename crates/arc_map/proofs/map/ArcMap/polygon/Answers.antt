@@ -1,3 +1,4 @@
+-- What holds of each polygon holds of this one.
 use Rattle.std.proofs.Common.{◌<◌, All, map, length, arith, subst, sym}
 use Rattle.arc_map.specs.Map.{Map}
 use Rattle.arc_map.proofs.Elements.{of_mapped, mapped_within_sum}

@@ -1,3 +1,4 @@
+-- The records that were there stay, and the new one lies behind them.
 use Rattle.std.proofs.Common.{◌≡◌, ◌+◌, ◌++◌, length, rules}
 use Rattle.arc_map.proofs.Flat.{records-pushed}
 use Rattle.arc_map.proofs.records.RunRecords.push.Goals as goal

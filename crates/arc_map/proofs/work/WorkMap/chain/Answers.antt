@@ -1,3 +1,4 @@
+-- The positions in memory are the places of the vertices.
 use Rattle.std.proofs.Common.{◌<◌, length, sym, subst, arith}
 use Rattle.std.proofs.lemmas.List.{length-map}
 use Rattle.arc_map.specs.Chains.{no_chain}

@@ -1,3 +1,4 @@
+-- One arc more is settled, and the arcs that come out are those of a map.
 use Rattle.std.proofs.Common.{◌≡◌, ◌∙◌, ◌+◌, ◌<◌, List, [], map, length, get_or, set, drop, sum_by, ap, sym, refl, subst, arith, length-set}
 use Rattle.std.specs.List.{AllByRecursion}
 use Rattle.std.proofs.lemmas.List.{length-map, map-set}

@@ -1,3 +1,4 @@
+-- The arcs so far are as the chains make them up, and the others are as they were.
 use Rattle.std.proofs.Common.{◌≡◌, ◌≤◌, ◌++◌, map, All, length, sum_by, take, drop}
 use Rattle.arc_map.specs.Map.{IsArc}
 use Rattle.arc_map.specs.Arcs.{arcs_now}

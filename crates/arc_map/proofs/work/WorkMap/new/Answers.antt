@@ -1,3 +1,4 @@
+-- One chain more is read, and all of them are chains as they are kept in memory.
 use Rattle.std.proofs.Common.{◌≡◌, ◌∙◌, ◌<◌, ◌≤◌, ◌^◌, ℕ, List, map, length, get_or, take, sum_by, ap, subst, arith, rules}
 use Rattle.std.specs.List.{AllZip}
 use Rattle.std.proofs.lemmas.List.{take_more, take_all, length-map}

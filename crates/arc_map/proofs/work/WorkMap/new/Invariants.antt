@@ -1,3 +1,4 @@
+-- The chains so far are in memory as the map has them.
 use Rattle.std.proofs.Common.{◌≡◌, take, length, vec_len, vec_capacity}
 use Rattle.std.specs.List.{AllZip}
 use Rattle.arc_map.specs.Live.{IsRead}

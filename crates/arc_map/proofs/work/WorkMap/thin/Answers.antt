@@ -1,3 +1,4 @@
+-- The chain that is thinned is a chain again, with its kept vertices and its old ends.
 use Rattle.std.proofs.Common.{◌≡◌, ◌∙◌, ◌<◌, ℕ, List, map, length, get_or, set, drop, refl, ap, sym, subst, arith}
 use Rattle.std.proofs.lemmas.List.{length-map, length-set, map-set}
 use Rattle.std.proofs.lemmas.List.Elements.{All-set}
