@@ -90,9 +90,9 @@ fn read_object(alloc: Global, scan: &Scan<'_>, node: u32) -> Result<Topology, Re
     Ok(Topology { map, arcs_at })
 }
 
-/// Reads the topology (TopoJSON 1.0) that a text is, in this project's profile of the format, or gives
-/// the first fault in the order of the walk: the members `type`, `transform`, `arcs` and `objects`, each
-/// value walked whole, from left to right, before the next member is looked for. `NoMemory` is want of memory.
+/// Reads the topology that a text is, or gives the first fault in the order of the walk, with its place in
+/// bytes from 0: of the members `type`, `transform`, `arcs` and `objects` each is looked for when the
+/// value of the one before was walked whole. `NoMemory` is want of memory.
 pub fn read(alloc: Global, scan: &Scan<'_>) -> Result<Topology, ReadFault>
     ensures topology { (d : Document) → IsJson 64 scan.now.bytes scan.now.nodes d → IfOk result (λ topology. topology_of (document_tree d) ≡ Ok (topology_read topology)) }
     ensures fault { (d : Document) → IsJson 64 scan.now.bytes scan.now.nodes d → IfErr result (Faults (topology_of (document_tree d))) }
