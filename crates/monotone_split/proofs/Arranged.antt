@@ -9,7 +9,8 @@ use Rattle.arc_map.specs.Walks.{IsEdgeOf, EachTwoEdges}
 use Rattle.arc_map.specs.Chains.{Chain, chain_at, AreChains, IsArrangedBeside}
 use Rattle.arc_map.specs.Edges.{Edge, edges_of, edges_of_all, EachOf, EachTwo, ClashOnlyIfHeld, EdgesAreArranged}
 use Rattle.monotone_split.specs.Laws.{ArrangedByChains}
-use Rattle.monotone_split.proofs.Maps.{each_edge_from, edge_has, lawful_swapped}
+use Rattle.monotone_split.proofs.WalkParts.{edge_has}
+use Rattle.monotone_split.proofs.Maps.{each_edge_from, lawful_swapped}
 
 -- ---- lists
 
