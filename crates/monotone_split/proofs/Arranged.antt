@@ -9,15 +9,16 @@ use Rattle.grid_exact.specs.Runs.{IsEdgeOf, EachTwoEdges}
 use Rattle.arc_map.specs.Chains.{Chain, chain_at, AreChains, IsArrangedBeside}
 use Rattle.arc_map.specs.Edges.{Edge, edges_of, edges_of_all, EachOf, EachTwo, ClashOnlyIfHeld, EdgesAreArranged}
 use Rattle.monotone_split.specs.Laws.{ArrangedByChains}
-use Rattle.monotone_split.proofs.Maps.{each_edge_from, edge_has, lawful_swapped}
+use Rattle.monotone_split.proofs.WalkParts.{edge_has}
+use Rattle.monotone_split.proofs.Maps.{each_edge_from, lawful_swapped}
 
 -- ---- lists
 
-of_first : {A : Type 0} (P : A → Type 0) (xs ys : List A) → EachOf P (xs ++ ys) → EachOf P xs
+pub of_first : {A : Type 0} (P : A → Type 0) (xs ys : List A) → EachOf P (xs ++ ys) → EachOf P xs
 of_first P [] ys h = tt
 of_first P (x ∷ xs) ys h = (h.0, of_first P xs ys h.1)
 
-of_second : {A : Type 0} (P : A → Type 0) (xs ys : List A) → EachOf P (xs ++ ys) → EachOf P ys
+pub of_second : {A : Type 0} (P : A → Type 0) (xs ys : List A) → EachOf P (xs ++ ys) → EachOf P ys
 of_second P [] ys h = h
 of_second P (x ∷ xs) ys h = of_second P xs ys h.1
 
@@ -25,15 +26,15 @@ pub of_both : {A : Type 0} (P : A → Type 0) (xs ys : List A) → EachOf P xs �
 of_both P [] ys h k = k
 of_both P (x ∷ xs) ys h k = (h.0, of_both P xs ys h.1 k)
 
-two_first : {A : Type 0} (R : A → A → Type 0) (xs ys : List A) → EachTwo R (xs ++ ys) → EachTwo R xs
+pub two_first : {A : Type 0} (R : A → A → Type 0) (xs ys : List A) → EachTwo R (xs ++ ys) → EachTwo R xs
 two_first R [] ys h = tt
 two_first R (x ∷ xs) ys h = (of_first (R x) xs ys h.0, two_first R xs ys h.1)
 
-two_second : {A : Type 0} (R : A → A → Type 0) (xs ys : List A) → EachTwo R (xs ++ ys) → EachTwo R ys
+pub two_second : {A : Type 0} (R : A → A → Type 0) (xs ys : List A) → EachTwo R (xs ++ ys) → EachTwo R ys
 two_second R [] ys h = h
 two_second R (x ∷ xs) ys h = two_second R xs ys h.1
 
-two_across : {A : Type 0} (R : A → A → Type 0) (xs ys : List A) → EachTwo R (xs ++ ys) → EachOf (λ x. EachOf (R x) ys) xs
+pub two_across : {A : Type 0} (R : A → A → Type 0) (xs ys : List A) → EachTwo R (xs ++ ys) → EachOf (λ x. EachOf (R x) ys) xs
 two_across R [] ys h = tt
 two_across R (x ∷ xs) ys h = (of_second (R x) xs ys h.0, two_across R xs ys h.1)
 
@@ -81,7 +82,7 @@ of_own R (x ∷ xs) (suc k) h = of_own R xs k (two_second R (edges_of x.first x.
 
 -- ---- held arcs
 
-held_or_not : (held : List ℕ) (arc : ℕ) → Contains held arc ⊎ ¬ (Contains held arc)
+pub held_or_not : (held : List ℕ) (arc : ℕ) → Contains held arc ⊎ ¬ (Contains held arc)
 held_or_not [] arc = inr (λ h. let k = h.1 in omega arith)
 held_or_not (x ∷ xs) arc =
     elim (cases_eq x arc) [

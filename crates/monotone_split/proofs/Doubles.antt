@@ -9,7 +9,7 @@ use Rattle.arc_map.specs.Chains.{chain_at, IsOtherEdge}
 use Rattle.monotone_split.specs.Laws.{EndOfEdge, DoubleEdgeIsChain}
 use Rattle.monotone_split.specs.Laws.EndOfEdge.{StartsAt, EndsAt}
 use Rattle.monotone_split.proofs.Junctions.{join_at_starts, join_at_start_and_end, join_at_end_and_start, join_at_ends}
-use Rattle.monotone_split.proofs.Maps.{edge_has}
+use Rattle.monotone_split.proofs.WalkParts.{edge_has}
 
 -- a vertex that starts an edge of a list of vertices is not its last
 start_has : (P : Vertex → Type 0) (w : Vertex) (ws : List Vertex) (c d : Vertex) → EachButLast P (w ∷ ws) → IsEdgeOf w ws c d → P c

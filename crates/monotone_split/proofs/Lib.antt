@@ -21,3 +21,4 @@ pub mod NextRun
 pub mod ArcVertices
 pub mod CutSoFar
 pub mod Neighbours
+pub mod Named

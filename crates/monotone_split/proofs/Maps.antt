@@ -18,7 +18,7 @@ use Rattle.arc_map.specs.Chains.{Chain, no_chain, chain_at, IsOtherEdge, AreChai
 use Rattle.arc_map.specs.Edges.{is_arc_crossed_oddly}
 use Rattle.monotone_split.specs.Laws.{ReplacementKeepsMap}
 use Rattle.monotone_split.proofs.RisingViews.{increases}
-use Rattle.monotone_split.proofs.WalkParts.{from_places, later_but_last}
+use Rattle.monotone_split.proofs.WalkParts.{edge_has, from_places, later_but_last}
 use Rattle.monotone_split.proofs.Paths.{kept_others, kept_off, kept_crossed, kept_monotone, own_lawful}
 
 join_swapped : (v w : Vertex) → MayJoin v w → MayJoin w v
@@ -37,11 +37,6 @@ lawful_swapped a b c d lawful h =
 pub each_edge_from : (P : Vertex → Vertex → Type 0) (v : Vertex) (ws : List Vertex) → ((a b : Vertex) → IsEdgeOf v ws a b → P a b) → EachEdge P v ws
 each_edge_from P v [] f = tt
 each_edge_from P v (w ∷ ws) f = (f v w (inl (refl, refl)), each_edge_from P w ws (λ a b e. f a b (inr e)))
-
-pub edge_has : (P : Vertex → Vertex → Type 0) (v : Vertex) (ws : List Vertex) (a b : Vertex) → EachEdge P v ws → IsEdgeOf v ws a b → P a b
-edge_has P v [] a b h e = absurd e
-edge_has P v (w ∷ ws) a b h (inl e) = subst (λ (x : Vertex). P x b) e.0 (subst (λ (y : Vertex). P v y) e.1 h.0)
-edge_has P v (w ∷ ws) a b h (inr e) = edge_has P w ws a b h.1 e
 
 abbrev with_rest : Chain → List Vertex → Chain
 with_rest k kept = record { frame = k.frame; first = k.first; rest = kept }

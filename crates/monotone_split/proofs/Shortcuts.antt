@@ -13,11 +13,12 @@ use Rattle.arc_map.specs.Vertices.MayJoin.{One, BothEnd}
 use Rattle.arc_map.specs.Vertices.IsJunction.{Starts, StartAndEnd, EndAndStart, Ends}
 use Rattle.arc_map.specs.Allowed.{IsConsistent}
 use Rattle.arc_map.specs.Allowed.IsConsistent.{AtStart, AtEnd, SameSide}
+use Rattle.arc_map.specs.Edges.{EachOf}
 use Rattle.arc_map.specs.Clear.{IsWithinChain}
 use Rattle.monotone_split.proofs.Runs.{IsAside}
 use Rattle.monotone_split.proofs.RisingViews.{Increases, apart_from_segment}
 use Rattle.monotone_split.proofs.Junctions.{join_at_starts, join_at_start_and_end, join_at_end_and_start, join_at_ends, start_on_other, end_on_other}
-use Rattle.monotone_split.proofs.WalkParts.{EachOf, last_edge, first_edge, end_of-places, closed_walk-places, run_ends_apart}
+use Rattle.monotone_split.proofs.WalkParts.{last_edge, first_edge, end_of-places, closed_walk-places, run_ends_apart}
 
 -- the vertex x of a run is at no end of the edge cd where they may join
 record Excludes (c d x : Vertex) : Type 0 where

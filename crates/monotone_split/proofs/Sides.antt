@@ -20,6 +20,7 @@ use Rattle.monotone_split.specs.Sides.{IsSpanned, IsOutside}
 use Rattle.monotone_split.specs.Sides.IsSpanned.{Upwards, Downwards}
 use Rattle.monotone_split.specs.Sides.IsOutside.{Before as OutsideBefore, After as OutsideAfter}
 use Rattle.monotone_split.specs.Laws.{SpanningEdgeTells, SomeEdgeSpans, OutsideIsEven}
+use Rattle.monotone_split.proofs.WalkParts.{edge_has}
 
 -- ---- in a view: places are compared as they are seen
 
@@ -124,11 +125,6 @@ data RunsOneWay (view : Place → Place) (v : Place) (ws : List Place) : Type 0 
 data Spans (view : Place → Place) (p a b : Place) : Type 0 where
   Up : ComesFirst view a p → ComesFirst view p b → Spans view p a b
   Down : ComesFirst view b p → ComesFirst view p a → Spans view p a b
-
-edge_has : (P : Place → Place → Type 0) (v : Place) (ws : List Place) (a b : Place) → EachEdge P v ws → IsEdgeOf v ws a b → P a b
-edge_has P v [] a b h e = absurd e
-edge_has P v (w ∷ ws) a b h (inl e) = subst (λ (x : Place). P x b) e.0 (subst (λ (y : Place). P v y) e.1 h.0)
-edge_has P v (w ∷ ws) a b h (inr e) = edge_has P w ws a b h.1 e
 
 not_up : (view : Place → Place) (p a b : Place) → ComesFirst view a b → ComesFirst view b p → ComesFirst view p a → ⊥
 not_up view p a b ab bp pa = not_both_ways (view a) (view b) ab (then_before (view b) (view p) (view a) bp pa)

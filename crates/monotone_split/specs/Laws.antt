@@ -9,6 +9,7 @@ use Rattle.grid_exact.specs.Paths.{LeadsTo}
 use Rattle.grid_exact.specs.Runs.{IsEdgeOf, IsMonotone}
 use Rattle.arc_map.specs.Map.{Map}
 use Rattle.arc_map.specs.Arcs.{IsMapArrangedBeside, AreChainsOf, AreKept, map_now, is_list_crossed_oddly, is_inside}
+use Rattle.arc_map.specs.Arranged.{IsMapArranged}
 use Rattle.arc_map.specs.Paths.{IsAllowedPair, vertices_at, Step, AreSteps}
 use Rattle.arc_map.specs.Edges.{is_arc_crossed_oddly, edges_of_all, EdgesAreArranged}
 use Rattle.arc_map.specs.Vertices.{Vertex, MeetLawfully}
@@ -66,6 +67,10 @@ SomeEdgeSpans = (frame : Frame) (v : Place) (ws : List Place) (p : Place) → Is
 -- and the walk is crossed from it an even number of times.
 abbrev pub OutsideIsEven : Type 0
 OutsideIsEven = (frame : Frame) (v : Place) (ws : List Place) (p : Place) → IsMonotone frame v ws → IsOutside frame v (end_of v ws) p → IsOff p v (ws ++ v ∷ []) × (is_odd (count_edges (is_crossed p) v (ws ++ v ∷ [])) ≡ false)
+
+-- A map is arranged beside held arcs by the names of its edges exactly where it is by the list of its edges.
+abbrev pub ArrangedByNames : Type 0
+ArrangedByNames = (held : List ℕ) (m : Map) → IsMapArranged held m ↔ IsMapArrangedBeside held m
 
 -- The edges of a map's chains are arranged exactly where each chain of an arc that is not held is clear.
 abbrev pub ArrangedByChains : Type 0
