@@ -3,7 +3,7 @@ use Rattle.std.proofs.Common.{◌≡◌, inl, inr, subst, List, [], ◌∷◌, �
 use Rattle.grid_exact.specs.Geometry.{Place, IsBefore}
 use Rattle.grid_exact.specs.Walks.{end_of, EachEdge}
 use Rattle.arc_map.specs.Vertices.{Vertex, places}
-use Rattle.arc_map.specs.Walks.{IsEdgeOf}
+use Rattle.grid_exact.specs.Runs.{IsEdgeOf}
 use Rattle.arc_map.specs.Clear.{EachButLast}
 use Rattle.arc_map.specs.Edges.{EachOf}
 use Rattle.monotone_split.proofs.RisingViews.{Increases, ends_apart}
