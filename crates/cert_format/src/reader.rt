@@ -1,0 +1,158 @@
+//! Reads a certificate: its numbers are taken out from left to right, and the text that is written for
+//! them decides whether the bytes are a certificate.
+ghost use Rattle.std.specs.Prelude.{◌≡◌, ◌≢◌, ◌≤◌, ◌^◌, All, IfOk, MatchResult, unsigned_abs, IsTrue, ◌↔◌, IfSome, length};
+ghost use Rattle.std.specs.List.Sorted.{IsStrictlyIncreasing};
+ghost use Rattle.cert_format.specs.Certificate.{certificate_text, KeepsLimits, IsVersion};
+ghost use Rattle.cert_format.specs.Content.{content_of};
+ghost use Rattle.arc_map.specs.ArcList.{IsArcList};
+
+use crate::certificate::{CertError, Certificate};
+use crate::chains::{Chains, gathered, read_records};
+use crate::number::{behind, number_behind, numbers_behind};
+use crate::writer::write;
+use arc_map::{ArcList, NoMemory, RunRecords};
+use grid_exact::{Bound, Weights};
+use std::alloc::Global;
+
+// The most arcs that may be held.
+const MOST_HELD: usize = 1 << 20;
+
+// The version, and the weights across and up.
+#[derive(Clone, Copy)]
+struct Ending {
+    version: u32,
+    wx: u32,
+    wy: u32,
+}
+
+impl Ending {
+    // Whether the version is one of the three, and what it leaves out is not there.
+    fn fits(self, held: &[u32]) -> bool
+        ensures { IsTrue result → IsVersion self.version self.wx self.wy held.now }
+    {
+        match self.version {
+            1 => held.is_empty() && self.wx == 1 && self.wy == 1,
+            2 => self.wx == 1 && self.wy == 1,
+            3 => true,
+            _ => false,
+        }
+    }
+}
+
+// The version and the weights behind the records; the held arcs are added to the list.
+fn read_ending(text: &[u8], held: &mut Vec<u32>) -> Result<Ending, CertError> {
+    if let Ok((version, _)) = number_behind(text, b",\"version\":") {
+        return Ok(Ending {
+            version,
+            wx: 1,
+            wy: 1,
+        });
+    }
+    let text = numbers_behind(text, b",\"held\":", held)?;
+    let (version, text) = number_behind(text, b",\"version\":")?;
+    if version < 3 {
+        return Ok(Ending {
+            version,
+            wx: 1,
+            wy: 1,
+        });
+    }
+    let (wx, text) = number_behind(text, b",\"weights\":[")?;
+    let (wy, _) = number_behind(text, b",")?;
+    Ok(Ending { version, wx, wy })
+}
+
+// Whether each number is greater than the one before it.
+fn is_rising(numbers: &[u32]) -> bool
+    ensures { IsTrue result ↔ IsStrictlyIncreasing numbers.now }
+{
+    for k in 1..numbers.len() {
+        if numbers[k - 1] >= numbers[k] {
+            return false;
+        }
+    }
+    true
+}
+
+// The list of held arcs, None where it does not rise or is too long.
+fn held_list(numbers: Vec<u32>) -> Option<ArcList>
+    ensures value { IfSome result (λ held. held ≡ numbers.items) }
+    ensures is_list { IfSome result (λ held. IsArcList held) }
+{
+    if numbers.len() > MOST_HELD {
+        return None;
+    }
+    if !is_rising(&numbers) {
+        return None;
+    }
+    Some(ArcList::new(numbers))
+}
+
+// The certificate of what was read, None where a number is past its limit.
+fn certificate(bound: u32, ending: Ending, held: Vec<u32>, records: RunRecords) -> Option<Certificate>
+    requires few { length records.entries ≤ 2 ^ 20 }
+    ensures { IfSome result (λ c. KeepsLimits (content_of c)) }
+{
+    let bound = Bound::new(bound as u64)?;
+    let weights = Weights::new(ending.wx as u64, ending.wy as u64)?;
+    if !ending.fits(&held) {
+        return None;
+    }
+    let held = held_list(held)?;
+    Some(Certificate {
+        version: ending.version,
+        bound,
+        weights,
+        held,
+        records,
+    })
+}
+
+// The numbers of a text, taken as those of a certificate.
+fn taken(alloc: Global, bytes: &[u8]) -> Result<Certificate, CertError>
+    ensures { IfOk result (λ c. KeepsLimits (content_of c)) }
+{
+    let (bound, text) = number_behind(bytes, b"{\"bound\":")?;
+    let mut chains = Chains::new(alloc);
+    let text = read_records(behind(text, b",\"chains\":")?, &mut chains)?;
+    let mut held = Vec::new(alloc);
+    let ending = read_ending(text, &mut held)?;
+    let records = gathered(alloc, &chains)?;
+    match certificate(bound, ending, held, records) {
+        Some(certificate) => Ok(certificate),
+        None => Err(CertError::NotCertificate),
+    }
+}
+
+// Whether the bytes are the text that is written for the certificate.
+fn is_text_of(alloc: Global, certificate: &Certificate, bytes: &[u8]) -> Result<bool, NoMemory>
+    requires { KeepsLimits (content_of certificate.now) }
+    ensures { IfOk result (λ same. IsTrue same ↔ (certificate_text (content_of certificate.now) ≡ bytes.now)) }
+{
+    let text = write(
+        alloc,
+        certificate.version,
+        certificate.bound,
+        certificate.weights,
+        &certificate.held,
+        &certificate.records,
+    )?;
+    Ok(text.as_slice() == bytes)
+}
+
+/// The certificate of which these bytes are the text.
+///
+/// `NotCertificate` says that they are not byte for byte the text of a certificate of one of the three
+/// versions. The bound is at most 2^30, the weights are from 1 to 65536, the held arcs rise, there are at most
+/// 2^20 of them and as many records, and the other numbers are below 2^32.
+pub fn read(alloc: Global, bytes: &[u8]) -> Result<Certificate, CertError>
+    ensures text { IfOk result (λ c. certificate_text (content_of c) ≡ bytes.now) }
+    ensures limits { IfOk result (λ c. KeepsLimits (content_of c)) }
+{
+    let certificate = taken(alloc, bytes)?;
+    match is_text_of(alloc, &certificate, bytes) {
+        Ok(true) => Ok(certificate),
+        Ok(false) => Err(CertError::NotCertificate),
+        Err(_) => Err(CertError::NoMemory),
+    }
+}

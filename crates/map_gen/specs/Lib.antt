@@ -1,0 +1,3 @@
+pub mod Shifts
+pub mod Make
+pub mod Lattice

@@ -1,0 +1,9 @@
+pub mod Orders
+pub mod Starts
+pub mod BothTests
+pub mod Rows
+pub mod Skipping
+pub mod Numbering
+pub mod Walking
+pub mod Sweeps
+pub mod Paired

@@ -1,0 +1,13 @@
+pub mod Offsets
+pub mod Cells
+pub mod Items
+pub mod Search
+pub mod Walk
+pub mod Area
+pub mod Box
+pub mod Things
+pub mod Meetings
+pub mod Sweeping
+pub mod Pairs
+pub mod EdgeIndex
+pub mod EdgeWalks

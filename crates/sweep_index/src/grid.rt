@@ -1,0 +1,157 @@
+//! Square cells over the plane, by which points are found.
+ghost use Rattle.std.specs.Prelude.{◌≡◌, ◌+◌, ◌*◌, ◌<◌, ◌≤◌, ◌^◌};
+ghost use Rattle.grid_exact.specs.Geometry.{IsGridNumber};
+ghost use Rattle.sweep_index.specs.Offsets.{offset_of};
+
+use grid_exact::Point;
+
+// How far the least coordinate is below 0.
+const REACH: i64 = 1 << 29;
+
+// How many columns and how many rows there are at most.
+const MOST: u32 = 1 << 11;
+
+// How far a coordinate is above the least one, in grid units.
+pub fn offset(z: i64) -> u32
+    requires { IsGridNumber z }
+    ensures value { result ≡ offset_of z }
+    ensures small { result ≤ 2 ^ 30 }
+{
+    (z + REACH) as u32
+}
+
+// Rows and columns of square cells, with the corner of the first one. What lies outside counts to the cells at the rim.
+#[derive(Clone, Copy)]
+pub struct Grid {
+    west: u32,
+    south: u32,
+    side: u32,
+    pub columns: u32,
+    pub rows: u32,
+    pub ghost wide: { 0 < side },
+    pub ghost some_columns: { 0 < columns },
+    pub ghost some_rows: { 0 < rows },
+    pub ghost few_columns: { columns ≤ 2 ^ 11 },
+    pub ghost few_rows: { rows ≤ 2 ^ 11 },
+}
+
+impl Grid {
+    ghost use Rattle.sweep_index.specs.Cells.{column_of, row_of, cell_of};
+
+    // At most about `count` cells over the box.
+    pub fn over(bounds: Bounds, count: usize) -> Grid {
+        let width = bounds.width();
+        let height = bounds.height();
+        let side = side_for(width, height, count as u64);
+        Grid {
+            west: bounds.west,
+            south: bounds.south,
+            side,
+            columns: (width / side).min(MOST - 1) + 1,
+            rows: (height / side).min(MOST - 1) + 1,
+        }
+    }
+
+    // The column of an x.
+    pub fn column(&self, x: i64) -> u32
+        requires { IsGridNumber x }
+        ensures value { result ≡ column_of self.now x }
+        ensures within { result < self.now.columns }
+    {
+        (offset(x).saturating_sub(self.west) / self.side).min(self.columns - 1)
+    }
+
+    // The row of a y.
+    pub fn row(&self, y: i64) -> u32
+        requires { IsGridNumber y }
+        ensures value { result ≡ row_of self.now y }
+        ensures within { result < self.now.rows }
+    {
+        (offset(y).saturating_sub(self.south) / self.side).min(self.rows - 1)
+    }
+
+    // The number of the cell in this row and column.
+    pub fn cell_in(&self, row: u32, column: u32) -> u32
+        requires row { row < self.now.rows }
+        requires column { column < self.now.columns }
+        ensures value { result ≡ row * self.now.columns + column }
+        ensures within { result < self.now.rows * self.now.columns }
+    {
+        row * self.columns + column
+    }
+
+    // The number of the cell of a point.
+    pub fn cell(&self, p: Point) -> u32
+        ensures { result ≡ cell_of self.now p }
+    {
+        self.cell_in(self.row(p.y()), self.column(p.x()))
+    }
+
+    // How many cells there are.
+    pub fn cells(&self) -> u32
+        ensures value { result ≡ self.now.rows * self.now.columns }
+        ensures few { result ≤ 2 ^ 22 }
+    {
+        self.rows * self.columns
+    }
+}
+
+// A side for which square cells over this width and height are not more than `count`.
+fn side_for(width: u32, height: u32, count: u64) -> u32
+    ensures { 0 < result }
+{
+    let mut side: u32 = 1;
+    while side < 1 << 30 && cells_of(width, height, side) > count {
+        side *= 2;
+    }
+    side
+}
+
+// How many cells of this side cover the width and the height.
+fn cells_of(width: u32, height: u32, side: u32) -> u64
+    requires { 0 < side }
+{
+    (u64::from(width / side) + 1).saturating_mul(u64::from(height / side) + 1)
+}
+
+// A box round points, as offsets. West is past east where there is no point.
+#[derive(Clone, Copy)]
+pub struct Bounds {
+    west: u32,
+    south: u32,
+    east: u32,
+    north: u32,
+}
+
+impl Bounds {
+    // The box round no point.
+    pub fn empty() -> Bounds {
+        Bounds {
+            west: u32::MAX,
+            south: u32::MAX,
+            east: 0,
+            north: 0,
+        }
+    }
+
+    // How far it goes up.
+    pub fn height(&self) -> u32 {
+        self.north.saturating_sub(self.south)
+    }
+
+    // How far it goes across.
+    pub fn width(&self) -> u32 {
+        self.east.saturating_sub(self.west)
+    }
+
+    // The least box round this one and a point.
+    pub fn with(self, p: Point) -> Bounds {
+        let (x, y) = (offset(p.x()), offset(p.y()));
+        Bounds {
+            west: self.west.min(x),
+            south: self.south.min(y),
+            east: self.east.max(x),
+            north: self.north.max(y),
+        }
+    }
+}

@@ -1,0 +1,19 @@
+//! Which points of a map stand in a box, and which edges come near one another or a feature point.
+#![tactic(auto)]
+
+mod area;
+mod bands;
+mod edges;
+mod entries;
+mod grid;
+mod index;
+mod sweep;
+mod things;
+mod walk;
+
+pub use edges::{EdgeIndex, PairWalk, TownWalk};
+pub use index::{Index, Item, Owner};
+pub use walk::Walk;
+
+#[cfg(test)]
+mod tests;
