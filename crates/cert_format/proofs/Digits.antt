@@ -1,5 +1,5 @@
 -- Digits read one by one, and the digits of a number.
-use Rattle.std.proofs.Common.{◌≡◌, ℕ, ◌+◌, ◌-◌, ◌*◌, ◌^◌, ◌<◌, ◌≤◌, Bool, true, false, cond, List, [], ◌∷◌, ◌++◌, length, get_or, drop, refl, sym, ap, subst, ◌∙◌, arith, ltb, rules, length-append, zero, suc, take}
+use Rattle.std.proofs.Common.{◌≡◌, ℕ, ◌+◌, ◌-◌, ◌*◌, ◌^◌, ◌<◌, ◌≤◌, true, false, List, [], ◌∷◌, ◌++◌, length, get_or, drop, refl, sym, ap, ◌∙◌, arith, ltb, rules, length-append, zero, suc, take, true≢false}
 use Rattle.std.proofs.Math.Seq.{drop-append_seam, take-append_seam}
 use Rattle.std.proofs.lemmas.Bool.{cond-true, cond-false, le-ltb}
 use Rattle.std.proofs.lemmas.Fmt.{digits_decimal, digits_value-decimal, decimal_nonempty}
@@ -47,20 +47,20 @@ unfolding read_digits
 read_law v [] [] digits small none = refl
 read_law v [] (b ∷ bs) digits small none = cond-false (is_digit b) _ _ none
 read_law v (d ∷ ds) rest digits small none =
-  let h = grows (v * 10 + (d - 48)) ds in
-  cond-true (is_digit d) _ _ digits.0
-  ∙ ap (λ k. read_digits k (ds ++ rest)) (grown_small v d (omega arith))
-  ∙ read_law (v * 10 + (d - 48)) ds rest digits.1 small none
+    let h = grows (v * 10 + (d - 48)) ds in
+    cond-true (is_digit d) _ _ digits.0
+    ∙ ap (λ k. read_digits k (ds ++ rest)) (grown_small v d (omega arith))
+    ∙ read_law (v * 10 + (d - 48)) ds rest digits.1 small none
 
 -- the number at the front, and what follows it
 pub number_taken : (size end : ℕ) (text : List ℕ) → (size, drop end text) ≡ read_digits 0 text → (n : ℕ) (rest : List ℕ) → n < 2 ^ 32 → NoDigit rest → text ≡ decimal n ++ rest → (size ≡ n) × (drop end text ≡ rest) × (0 < end)
 number_taken size end text read n rest small none is =
-  let wide : n < 2 ^ 64 = omega arith in
-  let value = digits_value-decimal own n wide in
-  let law = read_law 0 (decimal n) rest (digits_decimal own n wide) (rw value small) none in
-  let pair : (size, drop end text) ≡ (n, rest) = read ∙ ap (read_digits 0) is ∙ law ∙ ap (λ k. (k, rest)) value in
-  let left : drop end text ≡ rest = ap (λ (p : ℕ × List ℕ). p.1) pair in
-  (ap (λ (p : ℕ × List ℕ). p.0) pair, left, positive end left)
+    let wide : n < 2 ^ 64 = omega arith in
+    let value = digits_value-decimal own n wide in
+    let law = read_law 0 (decimal n) rest (digits_decimal own n wide) (rw value small) none in
+    let pair : (size, drop end text) ≡ (n, rest) = read ∙ ap (read_digits 0) is ∙ law ∙ ap (λ k. (k, rest)) value in
+    let left : drop end text ≡ rest = ap (λ (p : ℕ × List ℕ). p.1) pair in
+    (ap (λ (p : ℕ × List ℕ). p.0) pair, left, positive end left)
   where
     positive : (at : ℕ) → drop at text ≡ rest → 0 < at
     positive zero e = let nonempty = decimal_nonempty n (omega arith) in let l = ap length is ∙ length-append (decimal n) rest in let k : length text ≡ length rest = ap length e in absurd (omega arith)
@@ -69,3 +69,11 @@ number_taken size end text read n rest small none is =
 -- a word at the front, and what follows it
 pub word_taken : (text word rest : List ℕ) → text ≡ word ++ rest → (take (length word) text ≡ word) × (drop (length word) text ≡ rest) × (length word ≤ length text)
 word_taken text word rest is = (ap (take (length word)) is ∙ take-append_seam word rest, ap (drop (length word)) is ∙ drop-append_seam word rest, let l = ap length is ∙ length-append word rest in omega arith)
+
+no_bracket : (ds rest left : List ℕ) → AreDigits ds → 0 < length ds → ds ++ rest ≡ 93 ∷ left → ⊥
+no_bracket [] rest left digits some e = absurd (omega arith)
+no_bracket (d ∷ ds) rest left digits some e = true≢false (sym digits.0 ∙ ap (λ (l : List ℕ). is_digit (get_or l 0 0)) e)
+
+-- a number does not begin with a bracket
+pub number_no_bracket : (n : ℕ) (rest left : List ℕ) → n < 2 ^ 32 → decimal n ++ rest ≡ 93 ∷ left → ⊥
+number_no_bracket n rest left small e = no_bracket (decimal n) rest left (digits_decimal own n (omega arith)) (decimal_nonempty n (omega arith)) e

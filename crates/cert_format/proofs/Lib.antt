@@ -1,4 +1,5 @@
--- Lemmas on the texts of lists and on digits.
+-- Lemmas on digits, on lists behind commas and on the texts of records.
 pub mod Digits
 pub mod Lists
+pub mod Records
 pub mod Taken

@@ -1,5 +1,5 @@
 -- How a list that is written behind commas goes on.
-use Rattle.std.proofs.Common.{◌≡◌, ◌+◌, ◌<◌, ◌≤◌, ℕ, suc, List, [], ◌∷◌, ◌++◌, map, drop, length, get_or, slice_get, Some, ap, ◌∙◌, sym, refl, arith, append_assoc}
+use Rattle.std.proofs.Common.{◌≡◌, ◌+◌, ℕ, List, [], ◌∷◌, ◌++◌, map, drop, slice_get, Some, ap, ◌∙◌, sym, append_assoc}
 use Rattle.std.proofs.lemmas.Option.{get_or_from_slice_get, slice_get_within}
 use Rattle.std.proofs.lemmas.List.{drop_more}
 use Rattle.cert_format.specs.Certificate.{further}
@@ -15,8 +15,8 @@ then_text text e f = e ∙ ap (λ b. b ++ text) f
 -- one more item is written, behind a comma
 pub written_further : {X : Type 0} (text : X → List ℕ) (xs : List X) (k : ℕ) (x : X) (whole before comma after : List ℕ) → slice_get xs k ≡ Some x → before ++ further (map text (drop k xs)) ≡ whole → comma ≡ before ++ 44 ∷ [] → after ≡ comma ++ text x → after ++ further (map text (drop (k + 1) xs)) ≡ whole
 written_further text xs k x whole before comma after at kept a b =
-  ap (λ o. o ++ further (map text (drop (k + 1) xs))) (then_text (text x) b a)
-  ∙ append_assoc (before ++ 44 ∷ []) (text x) (further (map text (drop (k + 1) xs)))
-  ∙ append_assoc before (44 ∷ []) (text x ++ further (map text (drop (k + 1) xs)))
-  ∙ ap (λ rest. before ++ further (map text rest)) (sym (item_at xs k x at))
-  ∙ kept
+    ap (λ o. o ++ further (map text (drop (k + 1) xs))) (then_text (text x) b a)
+    ∙ append_assoc (before ++ 44 ∷ []) (text x) (further (map text (drop (k + 1) xs)))
+    ∙ append_assoc before (44 ∷ []) (text x ++ further (map text (drop (k + 1) xs)))
+    ∙ ap (λ rest. before ++ further (map text rest)) (sym (item_at xs k x at))
+    ∙ kept

@@ -1,14 +1,14 @@
 -- Lists that are read item by item, each behind a comma.
-use Rattle.std.proofs.Common.{◌≡◌, ◌≢◌, ℕ, ◌+◌, ◌<◌, ◌≤◌, zero, suc, List, [], ◌∷◌, ◌++◌, length, map, All, refl, sym, ap, ◌∙◌, arith, append_assoc, rules, get_or, eqb, true≢false}
+use Rattle.std.proofs.Common.{◌≡◌, ◌≢◌, ℕ, List, [], ◌∷◌, ◌++◌, map, All, refl, sym, ap, ◌∙◌, append_assoc, get_or, eqb, true≢false}
 use Rattle.std.proofs.lemmas.List.{append-nil, append_cancel_left}
 use Rattle.std.proofs.lemmas.List.Elements.{All-head, All-tail}
-use Rattle.cert_format.specs.Certificate.{further}
-use Rattle.cert_format.specs.Taken.{NoDigit}
-
--- one after the other is added
-abbrev pub extended : {X S : Type 0} → (S → X → S) → S → List X → S
-extended add s [] = s
-extended add s (x ∷ xs) = extended add (add s x) xs
+use Rattle.cert_format.specs.Certificate.{further, listed}
+use Rattle.std.proofs.lemmas.Result.{err_from_is_err_and}
+use Rattle.std.specs.Prelude.{Result, IsErrAnd}
+use Rattle.cert_format.specs.declared.certificate.CertError.{CertError}
+use Rattle.cert_format.specs.declared.certificate.CertError.TheVariants.{NoMemory}
+use Rattle.cert_format.specs.Going.{Goes, Each, extended}
+use Rattle.cert_format.specs.Taken.{NoDigit, Gives}
 
 abbrev pub with_number : List ℕ → ℕ → List ℕ
 with_number numbers n = numbers ++ n ∷ []
@@ -17,20 +17,9 @@ pub numbers_extended : (numbers ns : List ℕ) → extended with_number numbers 
 numbers_extended numbers [] = sym (append-nil numbers)
 numbers_extended numbers (n ∷ ns) = numbers_extended (numbers ++ n ∷ []) ns ∙ append_assoc numbers (n ∷ []) ns
 
-abbrev pub Each : {X : Type 0} → (X → Type 0) → List X → Type 0
-Each P [] = Unit {0}
-Each P (x ∷ xs) = P x × Each P xs
-
 pub each_of : {X : Type 0} (P : X → Type 0) (xs : List X) → All P xs → Each P xs
 each_of P [] all = tt
 each_of P (x ∷ xs) all = (All-head P x xs all, each_of P xs (All-tail P x xs all))
-
--- what is left is items behind commas and a bracket, and with them the state is the whole
-pub record Goes {X S : Type 0} (text : X → List ℕ) (P : X → Type 0) (add : S → X → S) (left : List ℕ) (now : S) (rest : List ℕ) (whole : S) : Type 0 where
-  pub more : List X
-  pub is : left ≡ further (map text more) ++ 93 ∷ rest
-  pub fit : Each P more
-  pub all : extended add now more ≡ whole
 
 -- an item stands at the front, and then the list goes on
 pub record Next {X S : Type 0} (text : X → List ℕ) (P : X → Type 0) (add : S → X → S) (left : List ℕ) (now : S) (rest : List ℕ) (whole : S) : Type 0 where
@@ -79,3 +68,16 @@ goes_on text P add after left then now rest whole a b g = record { more = g.more
 -- at the start of a list of numbers
 pub numbers_start : (P : ℕ → Type 0) (text : ℕ → List ℕ) (left numbers ns rest : List ℕ) → All P ns → left ≡ further (map text ns) ++ 93 ∷ rest → Goes text P with_number left numbers rest (numbers ++ ns)
 numbers_start P text left numbers ns rest all is = record { more = ns; is = is; fit = each_of P ns all; all = numbers_extended numbers ns }
+
+-- a list that is not empty, from its bracket on
+pub listed_front : (t : List ℕ) (ts : List (List ℕ)) (rest : List ℕ) → listed (t ∷ ts) ++ rest ≡ 91 ∷ (t ++ (further ts ++ 93 ∷ rest))
+listed_front t ts rest = append_assoc (91 ∷ t) (further ts ++ 93 ∷ []) rest ∙ ap (λ (l : List ℕ). (91 ∷ t) ++ l) (append_assoc (further ts) (93 ∷ []) rest)
+
+-- of what holds of the empty list and of each other list
+pub by_list : {X : Type 0} (Q : List X → Type 0) → Q [] → ((x : X) (xs : List X) → Q (x ∷ xs)) → (xs : List X) → Q xs
+by_list Q none some [] = none
+by_list Q none some (x ∷ xs) = some x xs
+
+-- what a `?` passes on
+pub fails : {X : Type 0} (r : Result X CertError) (fault : CertError) (P : X → Type 0) → IsErrAnd r (λ f. f ≡ fault) → fault ≡ NoMemory → Gives r P
+fails r fault P and e = let p = err_from_is_err_and r and in rw (p.1, p.2) e

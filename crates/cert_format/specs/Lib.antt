@@ -1,5 +1,7 @@
--- What a certificate is, and the text of each.
+-- What a certificate is, the text of each, and the words for reading it from the front.
 pub mod Certificate
 pub mod Content
 pub mod Digits
+pub mod Flat
+pub mod Going
 pub mod Taken

@@ -1,5 +1,5 @@
 -- What reading gives where a text begins with what is written.
-use Rattle.std.specs.Prelude.{◌≡◌, ℕ, Bool, false, List, [], ◌∷◌, Result, MatchResult}
+use Rattle.std.specs.Prelude.{◌≡◌, ℕ, false, List, [], ◌∷◌, Result, MatchResult}
 use Rattle.cert_format.specs.Digits.{is_digit}
 use Rattle.cert_format.specs.declared.certificate.CertError.{CertError}
 use Rattle.cert_format.specs.declared.certificate.CertError.TheVariants.{NoMemory}

@@ -1,8 +1,13 @@
 //! Reads the records of the chains: all kept places in one list and all layers in another.
-ghost use Rattle.std.specs.Prelude.{◌≡◌, ◌≤◌, ◌<◌, ◌^◌, IfOk, All, length, vec_len};
+ghost use Rattle.std.specs.Prelude.{◌≡◌, ◌≤◌, ◌<◌, ◌^◌, ◌-◌, ◌++◌, ◌∷◌, [], ℕ, List, IfOk, OnOk, All, length};
+ghost use Rattle.arc_map.specs.Records.{Record};
+ghost use Rattle.cert_format.specs.Certificate.{IsRecord, record_text};
+ghost use Rattle.cert_format.specs.Flat.{Flat, flat_of, with_record};
+ghost use Rattle.cert_format.specs.Going.{Goes};
+ghost use Rattle.cert_format.specs.Taken.{Gives};
 
 use crate::certificate::CertError;
-use crate::number::{behind, number_behind, numbers_behind};
+use crate::number::{behind, number_behind, numbers_behind, stripped};
 use arc_map::RunRecords;
 use std::alloc::{AllocError, Global};
 
@@ -38,13 +43,21 @@ impl Chains {
 
     // How many kept places and how many layers there are.
     fn counts(&self) -> (usize, usize)
-        ensures { (result.0 ≡ vec_len self.now.kept) × (result.1 ≡ vec_len self.now.layers) }
+        ensures { (result.0 ≡ length self.now.kept.items) × (result.1 ≡ length self.now.layers.items) }
     {
         (self.kept.len(), self.layers.len())
     }
 
     // Adds the heading of a record, of which the numbers stand already: all behind the first so many.
     fn add(&mut self, arc: u32, from: u32, kept: usize, layers: usize) -> Result<(), AllocError>
+        ensures headings { OnOk result (self.new.headings.items ≡ self.old.headings.items ++ record {
+          arc = arc;
+          «from» = «from»;
+          kept = length self.old.kept.items - kept;
+          layers = length self.old.layers.items - layers;
+        } ∷ []) }
+        ensures kept { self.new.kept.items ≡ self.old.kept.items }
+        ensures layers { self.new.layers.items ≡ self.old.layers.items }
     {
         let (kept_now, layers_now) = self.counts();
         self.headings.push(Heading {
@@ -60,23 +73,33 @@ impl Chains {
 // Adds the record at the front of the text, and returns what follows it.
 fn read_record<'a>(text: &'a [u8], chains: &mut Chains) -> Result<&'a [u8], CertError>
     ensures shorter { IfOk result (λ rest. length rest.now < length text.now) }
+    ensures taken { (r : Record) (rest : List ℕ) → IsRecord r → text.now ≡ record_text r ++ rest →
+        Gives result (λ left. (left.now ≡ rest) × (flat_of chains.new ≡ with_record (flat_of chains.old) r)) }
 {
     let (kept_before, layers_before) = chains.counts();
-    let (arc, text) = number_behind(text, b"{\"arc\":")?;
-    let (from, text) = number_behind(text, b",\"from\":")?;
-    let text = numbers_behind(text, b",\"kept\":", &mut chains.kept)?;
-    let text = numbers_behind(text, b",\"layers\":", &mut chains.layers)?;
+    let (arc, behind_arc) = number_behind(text, b"{\"arc\":")?;
+    let (from, behind_from) = number_behind(behind_arc, b",\"from\":")?;
+    let behind_kept = numbers_behind(behind_from, b",\"kept\":", &mut chains.kept)?;
+    let behind_layers = numbers_behind(behind_kept, b",\"layers\":", &mut chains.layers)?;
     chains.add(arc, from, kept_before, layers_before)?;
-    behind(text, b"}")
+    match behind(behind_layers, b"}") {
+        Err(fault) => Err(fault),
+        Ok(rest) => Ok(rest),
+    }
 }
 
 // Adds the records at the front of the text, each behind a comma, and returns what follows them.
 fn further_records<'a>(text: &'a [u8], chains: &mut Chains) -> Result<&'a [u8], CertError>
     ensures shorter { IfOk result (λ rest. length rest.now ≤ length text.now) }
+    ensures taken { (rest : List ℕ) (whole : Flat) → Goes record_text IsRecord with_record text.now (flat_of chains.old) rest whole →
+        Gives result (λ left. (left.now ≡ 93 ∷ rest) × (flat_of chains.new ≡ whole)) }
 {
     let mut left = text;
-    while let [b',', rest @ ..] = left {
-        left = read_record(rest, chains)?;
+    while let Some(rest) = stripped(left, b",") {
+        match read_record(rest, chains) {
+            Ok(after) => left = after,
+            Err(fault) => return Err(fault),
+        }
     }
     Ok(left)
 }

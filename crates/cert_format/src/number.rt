@@ -81,7 +81,11 @@ pub(crate) fn stripped<'a>(text: &'a [u8], word: &[u8]) -> Option<&'a [u8]>
         return None;
     }
     let (front, rest) = text.split_at(word.len());
-    if is_word(front, word) { Some(rest) } else { None }
+    if is_word(front, word) {
+        Some(rest)
+    } else {
+        None
+    }
 }
 
 /// What follows the word at the front of a text.
@@ -131,6 +135,40 @@ fn further_numbers<'a>(text: &'a [u8], numbers: &mut Vec<u32>) -> Result<&'a [u8
     Ok(left)
 }
 
+// Adds the numbers of a list that is not empty, and returns what follows the list.
+fn filled_list<'a>(text: &'a [u8], numbers: &mut Vec<u32>) -> Result<&'a [u8], CertError>
+    ensures shorter { IfOk result (λ rest. length rest.now ≤ length text.now) }
+    ensures taken { (n : ℕ) (ns rest : List ℕ) → IsSmall n → All IsSmall ns →
+        text.now ≡ 91 ∷ (decimal n ++ (further (map decimal ns) ++ 93 ∷ rest)) →
+        Gives result (λ left. (left.now ≡ rest) × (numbers.new.items ≡ numbers.old.items ++ (n ∷ ns))) }
+{
+    match number_behind(text, b"[") {
+        Err(fault) => Err(fault),
+        Ok((first, behind_first)) => {
+            add(numbers, first)?;
+            match further_numbers(behind_first, numbers) {
+                Err(fault) => Err(fault),
+                Ok(bracket) => match behind(bracket, b"]") {
+                    Err(fault) => Err(fault),
+                    Ok(rest) => Ok(rest),
+                },
+            }
+        }
+    }
+}
+
+// Adds the numbers of the list at the front of a text, and returns what follows the list.
+fn number_list<'a>(text: &'a [u8], numbers: &mut Vec<u32>) -> Result<&'a [u8], CertError>
+    ensures shorter { IfOk result (λ rest. length rest.now ≤ length text.now) }
+    ensures taken { (ns rest : List ℕ) → All IsSmall ns → text.now ≡ numbers_text ns ++ rest →
+        Gives result (λ left. (left.now ≡ rest) × (numbers.new.items ≡ numbers.old.items ++ ns)) }
+{
+    match stripped(text, b"[]") {
+        Some(rest) => Ok(rest),
+        None => filled_list(text, numbers),
+    }
+}
+
 /// Adds the numbers of the list behind the word at the front of a text, and returns what follows the list.
 pub(crate) fn numbers_behind<'a>(
     text: &'a [u8],
@@ -138,12 +176,11 @@ pub(crate) fn numbers_behind<'a>(
     numbers: &mut Vec<u32>,
 ) -> Result<&'a [u8], CertError>
     ensures shorter { IfOk result (λ rest. length rest.now ≤ length text.now) }
+    ensures taken { (ns rest : List ℕ) → All IsSmall ns → text.now ≡ word.now ++ (numbers_text ns ++ rest) →
+        Gives result (λ left. (left.now ≡ rest) × (numbers.new.items ≡ numbers.old.items ++ ns)) }
 {
-    let text = behind(text, word)?;
-    if let Some(rest) = stripped(text, b"[]") {
-        return Ok(rest);
+    match behind(text, word) {
+        Err(fault) => Err(fault),
+        Ok(list) => number_list(list, numbers),
     }
-    let (first, text) = number_behind(text, b"[")?;
-    add(numbers, first)?;
-    behind(further_numbers(text, numbers)?, b"]")
 }

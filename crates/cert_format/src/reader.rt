@@ -89,7 +89,12 @@ fn held_list(numbers: Vec<u32>) -> Option<ArcList>
 }
 
 // The certificate of what was read, None where a number is past its limit.
-fn certificate(bound: u32, ending: Ending, held: Vec<u32>, records: RunRecords) -> Option<Certificate>
+fn certificate(
+    bound: u32,
+    ending: Ending,
+    held: Vec<u32>,
+    records: RunRecords,
+) -> Option<Certificate>
     requires few { length records.entries ≤ 2 ^ 20 }
     ensures { IfSome result (λ c. KeepsLimits (content_of c)) }
 {

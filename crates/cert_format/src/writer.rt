@@ -90,7 +90,7 @@ fn write_held_list(out: &mut Vec<u8>, held: &ArcList) -> Result<(), AllocError>
 // Writes the records behind the first, each behind a comma.
 fn write_further_records(out: &mut Vec<u8>, records: &RunRecords) -> Result<(), AllocError>
     ensures { OnOk result (out.new.items
-      ≡ out.old.items ++ further (map record_text (drop 1 records.now.entries))) }
+        ≡ out.old.items ++ further (map record_text (drop 1 records.now.entries))) }
 {
     for k in 1..records.count() {
         out.extend_from_slice(b",")?;
@@ -161,7 +161,7 @@ fn write_pair(out: &mut Vec<u8>, first: u32, second: u32) -> Result<(), AllocErr
 // Writes the list of the weights.
 fn write_weight_list(out: &mut Vec<u8>, weights: Weights) -> Result<(), AllocError>
     ensures { OnOk result (out.new.items
-      ≡ out.old.items ++ numbers_text (unsigned_abs weights.x ∷ unsigned_abs weights.y ∷ [])) }
+        ≡ out.old.items ++ numbers_text (unsigned_abs weights.x ∷ unsigned_abs weights.y ∷ [])) }
 {
     write_pair(out, across(weights), up(weights))
 }
@@ -169,7 +169,7 @@ fn write_weight_list(out: &mut Vec<u8>, weights: Weights) -> Result<(), AllocErr
 // Writes the member `weights`, from version 3 on.
 fn write_weights(out: &mut Vec<u8>, version: u32, weights: Weights) -> Result<(), AllocError>
     ensures { OnOk result (out.new.items
-      ≡ out.old.items ++ weights_text version (unsigned_abs weights.x) (unsigned_abs weights.y)) }
+        ≡ out.old.items ++ weights_text version (unsigned_abs weights.x) (unsigned_abs weights.y)) }
 {
     if version < 3 {
         return Ok(());
@@ -190,7 +190,7 @@ pub fn write(
 ) -> Result<Vec<u8>, NoMemory>
     requires { IsVersion version (unsigned_abs weights.x) (unsigned_abs weights.y) held.now }
     ensures { IfOk result (λ text. text.items
-      ≡ certificate_text (content version bound weights held.now records.now.entries)) }
+        ≡ certificate_text (content version bound weights held.now records.now.entries)) }
 {
     let mut out = Vec::from_slice(alloc, b"{\"bound\":")?;
     write_bound(&mut out, bound)?;

@@ -1,3 +1,4 @@
 pub mod Counting
 pub mod Lengths
 pub mod Holding
+pub mod Besides

@@ -1,3 +1,4 @@
 pub mod Crossings
 pub mod Lines
+pub mod Reaches
 pub mod Scratch

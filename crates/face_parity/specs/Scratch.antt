@@ -4,6 +4,7 @@ use Rattle.grid_exact.specs.Geometry.{Place}
 use Rattle.grid_exact.specs.Walks.{differ}
 use Rattle.arc_map.specs.Map.{Map}
 use Rattle.arc_map.specs.Arcs.{is_list_crossed_oddly}
+use Rattle.face_parity.specs.Reaches.{AreReaches}
 use Rattle.face_parity.specs.declared.faces.FaceScratch.{FaceScratch}
 
 -- the parity of each arc: whether it is crossed from p an odd number of times
@@ -17,6 +18,7 @@ parity_sum parities (arc ∷ more) = differ (get_or parities arc false) (parity_
 
 -- the scratch was made for this map
 pub record IsScratchOf (m : Map) (scratch : FaceScratch) : Type 0 where
+  pub reaches : AreReaches m.arcs scratch.reaches.items
   pub parities : vec_len scratch.parities ≡ length m.arcs
   pub room : 64 + 8 * length m.polygons ≤ vec_capacity scratch.text
 

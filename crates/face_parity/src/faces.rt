@@ -3,9 +3,11 @@ ghost use Rattle.std.specs.Prelude.{◌≡◌, ◌<◌, ◌≤◌, ◌+◌, ◌*
 ghost use Rattle.std.specs.Fmt.{signed_decimal};
 ghost use Rattle.grid_exact.specs.Geometry.{Place};
 ghost use Rattle.face_parity.specs.Lines.{line_of, faces_of, numbers_text, still};
+ghost use Rattle.face_parity.specs.Reaches.{AreReaches};
 ghost use Rattle.face_parity.specs.Scratch.{AreParities, IsScratchOf, parity_sum, line_in};
 
-use crate::crossings::{is_crossed_oddly, toggled};
+use crate::crossings::toggled;
+use crate::reach::{Reach, parity_of, reaches_of};
 use crate::text::{put, put_coordinate, put_number};
 use arc_map::{ArcMap, NoMemory};
 use grid_exact::Point;
@@ -19,6 +21,7 @@ const NUMBER: usize = 8;
 /// What is reused from one point of a map to the next: one parity for each arc, and room for the longest line.
 #[derive(Drop)]
 pub struct FaceScratch {
+    reaches: Vec<Reach>,
     parities: Vec<bool>,
     text: Vec<u8>,
 }
@@ -28,9 +31,14 @@ impl FaceScratch {
     pub fn new(alloc: Global, topology: &ArcMap) -> Result<FaceScratch, NoMemory>
         ensures { IfOk result (IsScratchOf topology.now) }
     {
+        let reaches = reaches_of(alloc, topology)?;
         let parities = even_parities(alloc, topology)?;
         let text = Vec::with_capacity(alloc, LINE + NUMBER * topology.polygon_count() as usize)?;
-        Ok(FaceScratch { parities, text })
+        Ok(FaceScratch {
+            reaches,
+            parities,
+            text,
+        })
     }
 
     /// Writes the line of `faces` for the point number `k`, with its line feed: `point K X Y in`, and the numbers of
@@ -44,7 +52,7 @@ impl FaceScratch {
     {
         let _points = topology.point_count();
         let p = topology.point(k);
-        set_parities(&mut self.parities, topology, p);
+        set_parities(&mut self.parities, self.reaches.as_slice(), topology, p);
         self.text.clear();
         write_point(&mut self.text, k, p);
         write_faces(&mut self.text, self.parities.as_slice(), topology);
@@ -67,13 +75,14 @@ fn even_parities(alloc: Global, topology: &ArcMap) -> Result<Vec<bool>, AllocErr
 }
 
 // Sets the parity of each arc: whether it is crossed from p an odd number of times.
-fn set_parities(parities: &mut Vec<bool>, topology: &ArcMap, p: Point)
-    requires { vec_len parities.old ≡ length topology.now.arcs }
+fn set_parities(parities: &mut Vec<bool>, reaches: &[Reach], topology: &ArcMap, p: Point)
+    requires reaches { AreReaches topology.now.arcs reaches.now }
+    requires count { vec_len parities.old ≡ length topology.now.arcs }
     ensures value { AreParities topology.now p parities.new.items }
     ensures count { vec_len parities.new ≡ length topology.now.arcs }
 {
     for k in 0..topology.arc_count() {
-        parities[k as usize] = is_crossed_oddly(topology.arc(k), p);
+        parities[k as usize] = parity_of(reaches[k as usize], topology.arc(k), p);
     }
 }
 

@@ -3,6 +3,7 @@
 
 mod crossings;
 mod faces;
+mod reach;
 mod text;
 
 pub use crossings::{crossed, inside};

@@ -1,5 +1,5 @@
 -- Offsets, columns and rows keep the order of coordinates.
-use Rattle.std.proofs.Common.{◌≡◌, ◌+◌, ◌-◌, ◌*◌, ◌/◌, ◌<◌, ◌≤◌, ℕ, min, suc, ℤ, pos, negsuc, ◌≤ℤ◌, true, ◌&&◌, arith}
+use Rattle.std.proofs.Common.{◌≡◌, ◌-◌, ◌/◌, ◌<◌, ◌≤◌, ℕ, min, ℤ, pos, negsuc, ◌≤ℤ◌, true, arith}
 use Rattle.std.proofs.Math.Nat.{div-mul-le_self}
 use Rattle.std.proofs.lemmas.Nat.{le-div}
 use Rattle.std.proofs.lemmas.Int.{ints}

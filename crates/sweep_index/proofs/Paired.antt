@@ -1,8 +1,7 @@
 -- What meetings tell is of the map where the things are.
-use Rattle.std.proofs.Common.{◌≡◌, ◌∙◌, ◌+◌, ◌<◌, ◌⊎◌, inl, inr, ℕ, zero, suc, List, [], ◌∷◌, ◌++◌, Bool, true, false, length, get_or, map, drop, Option, Some, None, arith, refl, sym, subst}
-use Rattle.std.specs.Prelude.{All, filter, if◌then◌else◌}
+use Rattle.std.proofs.Common.{◌≡◌, ℕ, List, [], ◌∷◌, Bool, true, false, map, drop, Option, Some, None, arith, refl, subst}
+use Rattle.std.specs.Prelude.{All, if◌then◌else◌}
 use Rattle.std.specs.List.{filter_map, cons_option}
-use Rattle.std.proofs.lemmas.Bool.{cases_Bool}
 use Rattle.std.proofs.lemmas.List.Elements.{All-append, All-cons, All-drop, All-filter, All-head, All-map, All-nil, All-tail}
 use Rattle.arc_map.specs.Map.{Map}
 use Rattle.arc_map.specs.Arranged.{IsMapEdge}
@@ -24,8 +23,8 @@ meetings_are_of m height (e ∷ es) all =
     let head = All-head (λ b. IsThingOf m b.thing) e es all in
     let rest = All-tail (λ b. IsThingOf m b.thing) e es all in
     All-append (IsMeetingOf m) (meetings_beside height e es 0) (meetings_of height es)
-      (All-filter (is_met height) (IsMeetingOf m) (map (with_head e) (drop 0 es)) (All-map (IsMeetingOf m) (with_head e) (drop 0 es) (λ k d within. (head, All-drop (λ b. IsThingOf m b.thing) 0 es rest k d within))))
-      (meetings_are_of m height es rest)
+    (All-filter (is_met height) (IsMeetingOf m) (map (with_head e) (drop 0 es)) (All-map (IsMeetingOf m) (with_head e) (drop 0 es) (λ k d within. (head, All-drop (λ b. IsThingOf m b.thing) 0 es rest k d within))))
+    (meetings_are_of m height es rest)
 
 some_same : {X : Type 0} (x y : X) → Some x ≡ Some y → x ≡ y
 some_same x y is = grind arith

@@ -1,16 +1,15 @@
 -- In which rows the entries stand that are found before the start of a row's cells, and behind their end.
-use Rattle.std.proofs.Common.{◌≡◌, ◌+◌, ◌*◌, ◌<◌, ◌≤◌, ℕ, List, Bool, true, length, get_or, arith}
+use Rattle.std.proofs.Common.{◌≡◌, ◌+◌, ◌*◌, ◌<◌, ◌≤◌, ℕ, List, Bool, true, get_or, arith}
 use Rattle.std.specs.Prelude.{All}
 use Rattle.std.proofs.Math.Nat.{lt_of_mul-lt-mul_right}
 use Rattle.std.proofs.lemmas.Bool.{and_parts}
 use Rattle.grid_exact.specs.Geometry.{Place}
 use Rattle.sweep_index.specs.Box.{is_in_box}
-use Rattle.sweep_index.specs.Cells.{cell_of, column_of, row_of}
-use Rattle.sweep_index.specs.Items.{is_found}
-use Rattle.sweep_index.specs.Search.{IsPlaced, IsStartOf, IsFoundAt, IsAhead, IsPassed, numbered_of}
+use Rattle.sweep_index.specs.Cells.{column_of, row_of}
+use Rattle.sweep_index.specs.Search.{IsPlaced, IsStartOf, IsFoundAt, IsAhead, IsPassed}
 use Rattle.sweep_index.specs.declared.entries.Entry.{Entry}
 use Rattle.sweep_index.specs.declared.grid.Grid.{Grid}
-use Rattle.sweep_index.proofs.Orders.{column_rises, box_across, box_up}
+use Rattle.sweep_index.proofs.Orders.{column_rises, box_across}
 
 pub found_in_box : (es : List Entry) (live : List Bool) (low high : Place) (k : ℕ) (d : Entry) → IsFoundAt es live low high k → is_in_box low high (get_or es k d).item.at ≡ true
 found_in_box es live low high k d found = (and_parts (is_in_box low high (get_or es k d).item.at) (get_or live (get_or es k d).number _) (found d)).0

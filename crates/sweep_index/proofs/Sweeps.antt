@@ -1,11 +1,11 @@
 -- What a sweep passes: past the end of a band, or past the east of a thing, nothing meets it any more.
-use Rattle.std.proofs.Common.{◌≡◌, ◌∙◌, ◌+◌, ◌*◌, ◌^◌, ◌<◌, ◌≤◌, ◌⊎◌, inl, inr, ℕ, suc, List, [], ◌∷◌, ◌++◌, Bool, true, false, length, get_or, refl, ap, sym, arith}
+use Rattle.std.proofs.Common.{◌≡◌, ◌∙◌, ◌+◌, ◌<◌, ◌≤◌, ◌⊎◌, inl, inr, ℕ, suc, List, [], ◌∷◌, ◌++◌, true, length, get_or, refl, ap, sym, arith}
 use Rattle.std.specs.Prelude.{◌&&◌, ◌==◌, not, nat_le, nat_lt, max}
 use Rattle.std.specs.Prelude.{◌/◌}
 use Rattle.std.specs.List.Sorted.{IsNonDecreasingBy}
-use Rattle.std.proofs.lemmas.Bool.{and_parts, or_cases, not-true, eqb-true, eqb-false, leb-true, ltb-true, cases_lt, cases_eq}
+use Rattle.std.proofs.lemmas.Bool.{and_parts, or_cases, not-true, eqb-true, eqb-false, leb-true, ltb-true, cases_lt}
 use Rattle.sweep_index.specs.Things.{key_of}
-use Rattle.sweep_index.specs.Meetings.{do_meet, is_behind, is_met, meetings_beside, meetings_from, meetings_of, with_head}
+use Rattle.sweep_index.specs.Meetings.{do_meet, is_behind, is_met, meetings_from, meetings_of, with_head}
 use Rattle.sweep_index.specs.declared.things.Banded.{Banded}
 use Rattle.sweep_index.proofs.Skipping.{filter-drop_to, filter-drop_none}
 

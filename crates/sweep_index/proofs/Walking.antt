@@ -1,8 +1,7 @@
 -- What a walk passes from row to row.
-use Rattle.std.proofs.Common.{◌≡◌, ◌∙◌, ◌+◌, ◌<◌, ◌≤◌, ◌⊎◌, inl, inr, ℕ, List, [], ◌∷◌, Bool, true, length, get_or, max, drop, arith, sym, subst}
+use Rattle.std.proofs.Common.{◌≡◌, ◌+◌, ◌<◌, ◌≤◌, ◌⊎◌, inl, inr, ℕ, List, [], ◌∷◌, Bool, true, length, get_or, max, arith, sym, subst}
 use Rattle.std.proofs.lemmas.Bool.{cases_lt}
 use Rattle.grid_exact.specs.Geometry.{Place}
-use Rattle.sweep_index.specs.Box.{is_in_box}
 use Rattle.sweep_index.specs.Cells.{row_of}
 use Rattle.sweep_index.specs.Items.{is_found}
 use Rattle.sweep_index.specs.Search.{IsAhead, IsCursor, IsFoundAt, items_from, numbered_of}
@@ -66,7 +65,7 @@ one_by es live low high start at to k before none from_start below found (inr la
 pub next_found : (es : List Entry) (live : List Bool) (low high : Place) (start at k : ℕ) (e : Entry) → start ≤ at → at ≤ k → k < length es → e ≡ get_or es k e → IsFoundAt es live low high k → NoneFound es live low high start at → NoneFound es live low high at k → items_from es live low high start ≡ numbered_of e ∷ items_from es live low high (k + 1)
 next_found es live low high start at k e onward later inside is found before none =
     filter-drop_to (is_found live low high) numbered_of es start k e (omega (arith, onward, later)) inside is (subst (λ x. is_found live low high (numbered_of x) ≡ true) (sym is) (found e))
-      (λ j from_start below within yes. one_by es live low high start at k j before none from_start below yes (cases_lt j at))
+    (λ j from_start below within yes. one_by es live low high start at k j before none from_start below yes (cases_lt j at))
 
 -- before the first row
 before_first : (g : Grid) (es : List Entry) (live : List Bool) (low high : Place) (begin : ℕ) → IsAhead g es live low high begin (row_of g low.y) → begin ≤ length es → NoneFound es live low high 0 begin

@@ -1,5 +1,5 @@
 -- What an index holds, and what of it stands in a box.
-use Rattle.std.specs.Prelude.{◌&&◌, ℕ, Bool, false, List, length, filter, get_or}
+use Rattle.std.specs.Prelude.{◌&&◌, ℕ, Bool, false, List, filter, get_or}
 use Rattle.grid_exact.specs.Geometry.{Place}
 use Rattle.sweep_index.specs.Box.{is_in_box}
 use Rattle.sweep_index.specs.declared.index.Item.{Item}

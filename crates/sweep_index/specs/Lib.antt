@@ -11,3 +11,6 @@ pub mod Sweeping
 pub mod Pairs
 pub mod EdgeIndex
 pub mod EdgeWalks
+pub mod Slabs
+pub mod EdgeSlabs
+pub mod EdgeWalk

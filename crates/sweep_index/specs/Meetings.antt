@@ -1,5 +1,5 @@
 -- Which things in bands meet.
-use Rattle.std.specs.Prelude.{◌+◌, ◌/◌, ◌&&◌, ◌||◌, ◌==◌, not, nat_lt, nat_le, max, ℕ, Bool, List, [], ◌∷◌, ◌++◌, map, filter, drop}
+use Rattle.std.specs.Prelude.{◌/◌, ◌&&◌, ◌||◌, ◌==◌, not, nat_lt, nat_le, max, ℕ, Bool, List, [], ◌∷◌, ◌++◌, map, filter, drop}
 use Rattle.sweep_index.specs.declared.things.Extent.{Extent}
 use Rattle.sweep_index.specs.declared.things.Banded.{Banded}
 

@@ -7,12 +7,14 @@ mod edges;
 mod entries;
 mod grid;
 mod index;
+mod slabs;
 mod sweep;
 mod things;
 mod walk;
 
 pub use edges::{EdgeIndex, PairWalk, TownWalk};
 pub use index::{Index, Item, Owner};
+pub use slabs::{EdgeSlabs, EdgeWalk};
 pub use walk::Walk;
 
 #[cfg(test)]

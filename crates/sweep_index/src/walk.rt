@@ -57,7 +57,11 @@ impl<'a> Search<'a> {
         loop {
             if let Some(k) = self.first_found(at, end) {
                 let entry = &self.entries[k];
-                let next = Cursor { row, at: k + 1, end };
+                let next = Cursor {
+                    row,
+                    at: k + 1,
+                    end,
+                };
                 return Some(((entry.number, entry.item), next));
             }
             if row >= last_row {

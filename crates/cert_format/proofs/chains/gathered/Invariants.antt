@@ -1,5 +1,5 @@
 -- There is room for just what is left.
-use Rattle.std.proofs.Common.{◌≡◌, ◌-◌, ◌+◌, ◌≤◌, ◌^◌, All, length}
+use Rattle.std.proofs.Common.{◌≡◌, ◌+◌, length}
 use Rattle.cert_format.proofs.chains.gathered.Given as goal
 
 abbrev pub invariant-loop-heading : goal.invariant-loop-heading

@@ -1,5 +1,5 @@
 -- What follows a word is known.
-use Rattle.std.proofs.Common.{◌≡◌, ◌∙◌, sym}
+use Rattle.std.proofs.Common.{◌∙◌, sym}
 use Rattle.std.proofs.lemmas.List.{append_cancel_left}
 use Rattle.cert_format.proofs.number.behind.Goals as goal
 

@@ -2,7 +2,8 @@
 use Rattle.std.proofs.Common.{ℕ, List, ◌≤◌, length}
 use Rattle.std.specs.Fmt.{decimal}
 use Rattle.cert_format.specs.Certificate.{IsSmall}
-use Rattle.cert_format.proofs.Taken.{Goes, with_number}
+use Rattle.cert_format.specs.Going.{Goes}
+use Rattle.cert_format.proofs.Taken.{with_number}
 use Rattle.cert_format.proofs.number.further_numbers.Given as goal
 
 abbrev pub invariant-loop-rest : goal.invariant-loop-rest

@@ -1,5 +1,5 @@
 -- The number that stands at the front is read.
-use Rattle.std.proofs.Common.{◌≡◌, ◌∙◌, arith}
+use Rattle.std.proofs.Common.{◌∙◌, arith}
 use Rattle.cert_format.proofs.Digits.{number_taken}
 use Rattle.cert_format.proofs.number.number.Goals as goal
 

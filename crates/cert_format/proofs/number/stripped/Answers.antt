@@ -1,5 +1,5 @@
 -- Another text stands at the front.
-use Rattle.std.proofs.Common.{◌≡◌, ◌∙◌, sym, true≢false}
+use Rattle.std.proofs.Common.{◌∙◌, sym, true≢false}
 use Rattle.cert_format.proofs.Digits.{word_taken}
 use Rattle.cert_format.proofs.number.stripped.Goals as goal
 

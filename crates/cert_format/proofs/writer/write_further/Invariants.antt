@@ -1,5 +1,5 @@
 -- What is written and what is left make up the whole.
-use Rattle.std.proofs.Common.{◌≡◌, ◌++◌, ◌≤◌, map, drop, length}
+use Rattle.std.proofs.Common.{◌≡◌, ◌++◌, map, drop}
 use Rattle.std.specs.Fmt.{decimal}
 use Rattle.cert_format.specs.Certificate.{further}
 use Rattle.cert_format.proofs.writer.write_further.Given as goal

@@ -1,5 +1,5 @@
 -- What is written and what is left make up the whole.
-use Rattle.std.proofs.Common.{◌≡◌, ◌++◌, ◌≤◌, map, drop, length}
+use Rattle.std.proofs.Common.{◌≡◌, ◌++◌, map, drop}
 use Rattle.cert_format.specs.Certificate.{further, record_text}
 use Rattle.cert_format.proofs.writer.write_further_records.Given as goal
 

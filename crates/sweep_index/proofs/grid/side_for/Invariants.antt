@@ -1,4 +1,4 @@
-use Rattle.std.proofs.Common.{◌<◌, ◌≤◌, ◌^◌, ◌-◌}
+use Rattle.std.proofs.Common.{◌<◌, ◌^◌, ◌-◌}
 use Rattle.sweep_index.proofs.grid.side_for.Given as goal
 
 abbrev pub invariant-loop-side : goal.invariant-loop-side

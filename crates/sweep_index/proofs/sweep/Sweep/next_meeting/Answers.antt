@@ -29,7 +29,7 @@ loop-head-preserved c =
     let others = c.in-Some.others.now in
     record {
       same = c.loop-head.invariant.same
-        ∙ ap (λ es. meetings_from height es c.loop-head.passed) c.in-Some.ensures.cases.0
-        ∙ meetings_from-none height head others c.loop-head.passed c.in_default-first_met.ensures.none;
+          ∙ ap (λ es. meetings_from height es c.loop-head.passed) c.in-Some.ensures.cases.0
+          ∙ meetings_from-none height head others c.loop-head.passed c.in_default-first_met.ensures.none;
       sorted = sorted_rest head others (subst (IsNonDecreasingBy key_of) c.in-Some.ensures.cases.0 c.loop-head.invariant.sorted);
     }

@@ -1,4 +1,4 @@
-use Rattle.std.proofs.Common.{◌≡◌, ◌+◌, ◌*◌, ◌≤◌, subst, arith, rules}
+use Rattle.std.proofs.Common.{◌+◌, subst, arith, rules}
 use Rattle.std.specs.Prelude.{slice_index}
 use Rattle.sweep_index.specs.Area.{lowest, highest}
 use Rattle.sweep_index.specs.Search.{IsStartOf}

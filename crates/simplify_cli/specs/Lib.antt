@@ -1,0 +1,5 @@
+pub mod Words
+pub mod Requests
+pub mod Codes
+pub mod Messages
+pub mod Answers

@@ -1,0 +1,45 @@
+//! The command-line tool: it makes coverages to try map simplification on.
+#![tactic(auto)]
+
+mod forms;
+mod message;
+mod outside;
+mod run;
+mod status;
+#[cfg(test)]
+mod tests;
+mod words;
+
+use outside::{StdInputs, StdSink};
+use run::run;
+use status::Status;
+use std::process::ExitCode;
+use std::rt::Env;
+use std::{env, io};
+
+// The number with which the program ends where the system gives no words. No status has it.
+const NO_WORDS: u8 = 16;
+
+// The words behind the program's name.
+fn words_of<R: Env + AllocGlobal>(rt: &R) -> io::Result<Vec<String>> {
+    let mut words = Vec::new(rt.alloc());
+    for word in env::args(rt)?.skip(1) {
+        words.push(word)?;
+    }
+    Ok(words)
+}
+
+fn main(rt: HostRuntime) -> ExitCode {
+    let words = match words_of(&rt) {
+        Ok(words) => words,
+        Err(error) if error.kind() == io::ErrorKind::OutOfMemory => {
+            return ExitCode::from(Status::NoMemory.code());
+        }
+        Err(_) => return ExitCode::from(NO_WORDS),
+    };
+    let mut inputs = StdInputs::new(&rt);
+    let mut out = StdSink::new(rt.stdout());
+    let mut note = StdSink::new(rt.stderr());
+    let status = run(rt.alloc(), &words, &mut inputs, &mut out, &mut note);
+    ExitCode::from(status.code())
+}
