@@ -1,0 +1,107 @@
+//! The meeting of a map, which is arranged where it has none.
+ghost use Rattle.std.specs.Prelude.{◌≡◌, ◌<◌, ℕ, Err, All, IfOk, IfErr, IfSome, length};
+ghost use Rattle.arc_map.specs.Map.{Map};
+ghost use Rattle.arc_map.specs.Arranged.{EdgesClash, IsMapEdge, PointIsOn};
+ghost use Rattle.arc_map.specs.declared.refs.EdgeRef.{EdgeRef};
+ghost use Rattle.arrangement_check.specs.declared.meeting.CheckError.{CheckError};
+ghost use Rattle.sweep_index.specs.EdgeIndex.{IsIndexOf};
+
+use crate::arranged::Arranged;
+use crate::clashes::{edges_clash, town_is_on};
+use arc_map::{ArcMap, EdgeRef, NoMemory};
+use std::alloc::Global;
+use sweep_index::EdgeIndex;
+use thiserror::Error;
+
+/// Why a map is not arranged.
+#[derive(Debug, Drop, Error)]
+pub enum CheckError {
+    /// These two edges clash, and no lesser pair does: by the first, then by the second.
+    #[error("two edges clash")]
+    Edges(EdgeRef, EdgeRef),
+    /// No edges clash. This feature point lies on this edge, no lesser one on any, and this one on no lesser edge.
+    #[error("a point lies on an arc")]
+    PointOnArc(u32, EdgeRef),
+    /// There is no memory.
+    #[error("there is no memory")]
+    NoMemory,
+}
+
+impl From<NoMemory> for CheckError {
+    ghost use Rattle.std.specs.Prelude.{◌≡◌};
+    ghost use Rattle.arrangement_check.specs.declared.meeting.CheckError.TheVariants.{NoMemory};
+
+    ghost from_gives = { λ _ e. e ≡ NoMemory };
+
+    fn from(_: NoMemory) -> CheckError {
+        CheckError::NoMemory
+    }
+}
+
+/// The map as an arranged one, or its meeting: the least clashing pair of edges, or where there is none the least feature
+/// point that lies on an edge, with the least such edge. The map is given up where it is not arranged.
+pub fn check(alloc: Global, map: ArcMap) -> Result<Arranged, CheckError>
+    ensures same { IfOk result (λ arranged. arranged ≡ map) }
+    ensures edges { (e f : EdgeRef) → result ≡ Err (CheckError.Edges e f) → IsMapEdge map e × IsMapEdge map f × EdgesClash map e f }
+    ensures point { (k : ℕ) (e : EdgeRef) → result ≡ Err (CheckError.PointOnArc k e) → (k < length map.points) × IsMapEdge map e × PointIsOn map k e }
+{
+    let index = EdgeIndex::build(alloc, &map)?;
+    if let Some((e, f)) = least_clash(&map, &index) {
+        return Err(CheckError::Edges(e, f));
+    }
+    if let Some((town, e)) = least_town(&map, &index) {
+        return Err(CheckError::PointOnArc(town, e));
+    }
+    Ok(Arranged::adopt(map))
+}
+
+// The least pair of edges that clash.
+fn least_clash(map: &ArcMap, index: &EdgeIndex) -> Option<(EdgeRef, EdgeRef)>
+    requires { IsIndexOf map.now index.now }
+    ensures clash { IfSome result (λ pair. IsMapEdge map.now pair.0 × IsMapEdge map.now pair.1 × EdgesClash map.now pair.0 pair.1) }
+{
+    let mut least: Option<(EdgeRef, EdgeRef)> = None;
+    let mut pairs = index.pairs();
+    while let Some((e, f)) = pairs.next() {
+        if is_less((e, f), least) && edges_clash(map, e, f) {
+            least = Some((e, f));
+        }
+    }
+    least
+}
+
+// Whether the pair is before the other one, or there is no other.
+fn is_less(pair: (EdgeRef, EdgeRef), least: Option<(EdgeRef, EdgeRef)>) -> bool {
+    match least {
+        None => true,
+        Some((e, f)) => precedes(pair.0, e) || (pair.0 == e && precedes(pair.1, f)),
+    }
+}
+
+// Whether e is before f: by arc, then by place in the arc.
+fn precedes(e: EdgeRef, f: EdgeRef) -> bool {
+    e.arc < f.arc || (e.arc == f.arc && e.at < f.at)
+}
+
+// The least feature point that lies on an edge, with the least such edge.
+fn least_town(map: &ArcMap, index: &EdgeIndex) -> Option<(u32, EdgeRef)>
+    requires { IsIndexOf map.now index.now }
+    ensures on { IfSome result (λ town. (town.0 < length map.now.points) × IsMapEdge map.now town.1 × PointIsOn map.now town.0 town.1) }
+{
+    let mut least: Option<(u32, EdgeRef)> = None;
+    let mut towns = index.towns();
+    while let Some((town, e)) = towns.next() {
+        if is_less_town((town, e), least) && town_is_on(map, town, e) {
+            least = Some((town, e));
+        }
+    }
+    least
+}
+
+// Whether the feature point with its edge is before the other one, or there is no other.
+fn is_less_town(town: (u32, EdgeRef), least: Option<(u32, EdgeRef)>) -> bool {
+    match least {
+        None => true,
+        Some((other, e)) => town.0 < other || (town.0 == other && precedes(town.1, e)),
+    }
+}
