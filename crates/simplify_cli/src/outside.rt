@@ -1,5 +1,5 @@
 //! Files and the standard streams as inputs and sinks. They tell nothing of what they hold.
-ghost use Rattle.std.specs.Prelude.{false, []};
+ghost use Rattle.std.specs.Prelude.{◌≡◌, false, []};
 
 use outside_io::{Failed, Inputs, Sink};
 use std::fs;
@@ -27,7 +27,11 @@ pub struct StdInputs<'a, R: Files + Input> {
 }
 
 impl<'a, R: Files + Input> StdInputs<'a, R> {
-    pub fn new(rt: &'a R) -> Self {
+    /// Nothing is begun yet, and no call has failed.
+    pub fn new(rt: &'a R) -> Self
+        ensures given { result.given ≡ 0 }
+        ensures faults { result.faults ≡ 0 }
+    {
         StdInputs {
             rt,
             current: Current::Nothing,
@@ -96,7 +100,10 @@ pub struct StdSink<W: Write + Drop> {
 }
 
 impl<W: Write + Drop> StdSink<W> {
-    pub fn new(stream: W) -> Self {
+    /// The stream, on which no call has failed yet.
+    pub fn new(stream: W) -> Self
+        ensures faults { result.faults ≡ 0 }
+    {
         StdSink { stream, faults: 0 }
     }
 }
