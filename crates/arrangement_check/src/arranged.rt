@@ -4,7 +4,8 @@ ghost use Rattle.std.specs.Prelude.{◌≡◌};
 use arc_map::ArcMap;
 use std::marker::Model;
 
-/// A map that is arranged: no two of its edges clash, and no feature point lies on an edge. Contracts see the map.
+/// A map that is arranged: no two of its edges clash, and no feature point lies on an edge. Contracts see the map; the type
+/// does not carry the fact yet.
 #[derive(Drop)]
 pub struct Arranged {
     map: ArcMap,

@@ -39,7 +39,8 @@ impl From<NoMemory> for CheckError {
 }
 
 /// The map as an arranged one, or its meeting: the least clashing pair of edges, or where there is none the least feature
-/// point that lies on an edge, with the least such edge. The map is given up where it is not arranged.
+/// point that lies on an edge, with the least such edge. The map is given up where it is not arranged. That Ok means
+/// arranged, and that the meeting is the least one, are no clauses yet.
 pub fn check(alloc: Global, map: ArcMap) -> Result<Arranged, CheckError>
     ensures same { IfOk result (λ arranged. arranged ≡ map) }
     ensures edges { (e f : EdgeRef) → result ≡ Err (CheckError.Edges e f) → IsMapEdge map e × IsMapEdge map f × EdgesClash map e f }

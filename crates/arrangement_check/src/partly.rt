@@ -68,7 +68,7 @@ impl Partly {
 }
 
 /// The map with its held arcs: those of which an edge clashes with some edge, or on which a feature point lies. The only error
-/// is want of memory.
+/// is want of memory. That the list is exactly that of the held arcs is no clause yet.
 pub fn hold(alloc: Global, map: ArcMap) -> Result<Partly, NoMemory>
     ensures { IfOk result (λ partly. partly.map ≡ map) }
 {

@@ -149,7 +149,8 @@ fn is_text_of(alloc: Global, certificate: &Certificate, bytes: &[u8]) -> Result<
 ///
 /// `NotCertificate` says that they are not byte for byte the text of a certificate of one of the three
 /// versions. The bound is at most 2^30, the weights are from 1 to 65536, the held arcs rise, there are at most
-/// 2^20 of them and as many records, and the other numbers are below 2^32.
+/// 2^20 of them and as many records, and the other numbers are below 2^32. That each such text is accepted is no
+/// clause yet.
 pub fn read(alloc: Global, bytes: &[u8]) -> Result<Certificate, CertError>
     ensures text { IfOk result (λ c. certificate_text (content_of c) ≡ bytes.now) }
     ensures limits { IfOk result (λ c. KeepsLimits (content_of c)) }
