@@ -1,2 +1,4 @@
 pub mod Ends
 pub mod Partly
+pub mod Least
+pub mod Marks

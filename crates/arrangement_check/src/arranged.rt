@@ -1,11 +1,11 @@
 //! A map that is arranged.
 ghost use Rattle.std.specs.Prelude.{◌≡◌};
+ghost use Rattle.arc_map.specs.Arranged.{IsArranged};
 
 use arc_map::ArcMap;
 use std::marker::Model;
 
-/// A map that is arranged: no two of its edges clash, and no feature point lies on an edge. Contracts see the map; the type
-/// does not carry the fact yet.
+/// A map that is arranged: no two of its edges clash, and no feature point lies on an edge. Contracts see the map.
 #[derive(Drop)]
 pub struct Arranged {
     map: ArcMap,
@@ -13,16 +13,20 @@ pub struct Arranged {
 
 impl Model for Arranged {
     ghost use Rattle.arc_map.specs.Map.{Map};
+    ghost use Rattle.arc_map.specs.Arranged.{IsArranged};
 
     ghost Value = { Map };
 
     ghost view = { λ a. a.map };
+
+    ghost invariant = { λ a. IsArranged a.map };
 }
 
 impl Arranged {
     /// The arranged map.
     pub fn map(&self) -> &ArcMap
-        ensures { result.now ≡ self.now }
+        ensures same { result.now ≡ self.now }
+        ensures arranged { IsArranged self.now }
     {
         &self.map
     }
@@ -34,8 +38,9 @@ impl Arranged {
         self.map
     }
 
-    /// The map as an arranged one. The caller knows that it is.
+    /// The map as an arranged one.
     pub fn adopt(map: ArcMap) -> Arranged
+        requires { IsArranged map }
         ensures { result ≡ map }
     {
         Arranged { map }

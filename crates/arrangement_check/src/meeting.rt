@@ -1,9 +1,9 @@
 //! The meeting of a map, which is arranged where it has none.
-ghost use Rattle.std.specs.Prelude.{◌≡◌, ◌<◌, ℕ, Err, All, IfOk, IfErr, IfSome, length};
-ghost use Rattle.arc_map.specs.Map.{Map};
-ghost use Rattle.arc_map.specs.Arranged.{EdgesClash, IsMapEdge, PointIsOn};
+ghost use Rattle.std.specs.Prelude.{◌≡◌, ◌↔◌, ◌<◌, ℕ, Err, IfOk, IfNone, IfSome, IsTrue, length};
+ghost use Rattle.arc_map.specs.Arranged.{EdgesClash, HasNoClash, IsArranged, IsEarlier, IsLeastClash, IsLeastPoint, IsMapEdge, PointIsOn};
 ghost use Rattle.arc_map.specs.declared.refs.EdgeRef.{EdgeRef};
 ghost use Rattle.arrangement_check.specs.declared.meeting.CheckError.{CheckError};
+ghost use Rattle.arrangement_check.specs.Least.{HasNoTown, IsLessPair, IsLessTown, IsNew};
 ghost use Rattle.sweep_index.specs.EdgeIndex.{IsIndexOf};
 
 use crate::arranged::Arranged;
@@ -39,12 +39,12 @@ impl From<NoMemory> for CheckError {
 }
 
 /// The map as an arranged one, or its meeting: the least clashing pair of edges, or where there is none the least feature
-/// point that lies on an edge, with the least such edge. The map is given up where it is not arranged. That Ok means
-/// arranged, and that the meeting is the least one, are no clauses yet.
+/// point that lies on an edge, with the least such edge. The map is given up where it is not arranged.
 pub fn check(alloc: Global, map: ArcMap) -> Result<Arranged, CheckError>
     ensures same { IfOk result (λ arranged. arranged ≡ map) }
-    ensures edges { (e f : EdgeRef) → result ≡ Err (CheckError.Edges e f) → IsMapEdge map e × IsMapEdge map f × EdgesClash map e f }
-    ensures point { (k : ℕ) (e : EdgeRef) → result ≡ Err (CheckError.PointOnArc k e) → (k < length map.points) × IsMapEdge map e × PointIsOn map k e }
+    ensures arranged { IfOk result (λ arranged. IsArranged map) }
+    ensures edges { (e f : EdgeRef) → result ≡ Err (CheckError.Edges e f) → IsLeastClash map e f }
+    ensures point { (k : ℕ) (e : EdgeRef) → result ≡ Err (CheckError.PointOnArc k e) → IsLeastPoint map k e }
 {
     let index = EdgeIndex::build(alloc, &map)?;
     if let Some((e, f)) = least_clash(&map, &index) {
@@ -59,20 +59,32 @@ pub fn check(alloc: Global, map: ArcMap) -> Result<Arranged, CheckError>
 // The least pair of edges that clash.
 fn least_clash(map: &ArcMap, index: &EdgeIndex) -> Option<(EdgeRef, EdgeRef)>
     requires { IsIndexOf map.now index.now }
-    ensures clash { IfSome result (λ pair. IsMapEdge map.now pair.0 × IsMapEdge map.now pair.1 × EdgesClash map.now pair.0 pair.1) }
+    ensures least { IfSome result (λ pair. IsLeastClash map.now pair.0 pair.1) }
+    ensures none { IfNone result (HasNoClash map.now) }
 {
     let mut least: Option<(EdgeRef, EdgeRef)> = None;
     let mut pairs = index.pairs();
     while let Some((e, f)) = pairs.next() {
-        if is_less((e, f), least) && edges_clash(map, e, f) {
+        if clashes_below(map, e, f, least) {
             least = Some((e, f));
         }
     }
     least
 }
 
+// Whether the edges clash, and the pair is before the other one, or there is no other.
+fn clashes_below(map: &ArcMap, e: EdgeRef, f: EdgeRef, least: Option<(EdgeRef, EdgeRef)>) -> bool
+    requires first { IsMapEdge map.now e }
+    requires second { IsMapEdge map.now f }
+    ensures { IsTrue result ↔ (IsNew IsLessPair (e, f) least × EdgesClash map.now e f) }
+{
+    is_less((e, f), least) && edges_clash(map, e, f)
+}
+
 // Whether the pair is before the other one, or there is no other.
-fn is_less(pair: (EdgeRef, EdgeRef), least: Option<(EdgeRef, EdgeRef)>) -> bool {
+fn is_less(pair: (EdgeRef, EdgeRef), least: Option<(EdgeRef, EdgeRef)>) -> bool
+    ensures { IsTrue result ↔ IsNew IsLessPair pair least }
+{
     match least {
         None => true,
         Some((e, f)) => precedes(pair.0, e) || (pair.0 == e && precedes(pair.1, f)),
@@ -80,27 +92,42 @@ fn is_less(pair: (EdgeRef, EdgeRef), least: Option<(EdgeRef, EdgeRef)>) -> bool 
 }
 
 // Whether e is before f: by arc, then by place in the arc.
-fn precedes(e: EdgeRef, f: EdgeRef) -> bool {
+fn precedes(e: EdgeRef, f: EdgeRef) -> bool
+    ensures { IsTrue result ↔ IsEarlier e f }
+{
     e.arc < f.arc || (e.arc == f.arc && e.at < f.at)
 }
 
 // The least feature point that lies on an edge, with the least such edge.
 fn least_town(map: &ArcMap, index: &EdgeIndex) -> Option<(u32, EdgeRef)>
-    requires { IsIndexOf map.now index.now }
-    ensures on { IfSome result (λ town. (town.0 < length map.now.points) × IsMapEdge map.now town.1 × PointIsOn map.now town.0 town.1) }
+    requires index { IsIndexOf map.now index.now }
+    requires no_clash { HasNoClash map.now }
+    ensures least { IfSome result (λ town. IsLeastPoint map.now town.0 town.1) }
+    ensures none { IfNone result (HasNoTown map.now) }
 {
     let mut least: Option<(u32, EdgeRef)> = None;
     let mut towns = index.towns();
     while let Some((town, e)) = towns.next() {
-        if is_less_town((town, e), least) && town_is_on(map, town, e) {
+        if lies_below(map, town, e, least) {
             least = Some((town, e));
         }
     }
     least
 }
 
+// Whether the feature point lies on the edge, and is with it before the other one, or there is no other.
+fn lies_below(map: &ArcMap, town: u32, e: EdgeRef, least: Option<(u32, EdgeRef)>) -> bool
+    requires point { town < length map.now.points }
+    requires edge { IsMapEdge map.now e }
+    ensures { IsTrue result ↔ (IsNew IsLessTown (town, e) least × PointIsOn map.now town e) }
+{
+    is_less_town((town, e), least) && town_is_on(map, town, e)
+}
+
 // Whether the feature point with its edge is before the other one, or there is no other.
-fn is_less_town(town: (u32, EdgeRef), least: Option<(u32, EdgeRef)>) -> bool {
+fn is_less_town(town: (u32, EdgeRef), least: Option<(u32, EdgeRef)>) -> bool
+    ensures { IsTrue result ↔ IsNew IsLessTown town least }
+{
     match least {
         None => true,
         Some((other, e)) => town.0 < other || (town.0 == other && precedes(town.1, e)),

@@ -1,8 +1,10 @@
 //! A map that is arranged but for some arcs, which are held.
-ghost use Rattle.std.specs.Prelude.{◌≡◌, ◌<◌, ◌≤◌, ◌^◌, IfOk, OnOk, [], true, length, slice_set};
+ghost use Rattle.std.specs.Prelude.{◌≡◌, ◌↔◌, ◌<◌, ◌≤◌, ◌^◌, ℕ, IfOk, [], true, Contains, length, slice_set};
 ghost use Rattle.arc_map.specs.ArcList.{IsArcList};
+ghost use Rattle.arc_map.specs.Arranged.{IsHeld, IsHeldList, IsMapArranged};
 ghost use Rattle.sweep_index.specs.EdgeIndex.{IsIndexOf};
 ghost use Rattle.arrangement_check.specs.Partly.{Holding};
+ghost use Rattle.arrangement_check.specs.Marks.{IsMarked, MarksHeld, MarksClashes};
 
 use crate::arranged::Arranged;
 use crate::clashes::{edges_clash, town_is_on};
@@ -20,11 +22,14 @@ pub struct Partly {
 }
 
 impl Model for Partly {
+    ghost use Rattle.arc_map.specs.Arranged.{IsMapArranged};
     ghost use Rattle.arrangement_check.specs.Partly.{Holding};
 
     ghost Value = { Holding };
 
     ghost view = { λ p. record { map = p.map; held = p.held } };
+
+    ghost invariant = { λ p. IsMapArranged p.held p.map };
 }
 
 impl Partly {
@@ -38,8 +43,9 @@ impl Partly {
         }
     }
 
-    /// The map with these arcs held. The caller knows that it is arranged beside them.
+    /// The map with these arcs held, beside which it is arranged.
     pub fn adopt(map: ArcMap, held: ArcList) -> Partly
+        requires { IsMapArranged held map }
         ensures { result ≡ record { map = map; held = held } }
     {
         Partly { map, held }
@@ -47,7 +53,8 @@ impl Partly {
 
     /// The map.
     pub fn map(&self) -> &ArcMap
-        ensures { result.now ≡ self.now.map }
+        ensures same { result.now ≡ self.now.map }
+        ensures arranged { IsMapArranged self.now.held self.now.map }
     {
         &self.map
     }
@@ -68,9 +75,10 @@ impl Partly {
 }
 
 /// The map with its held arcs: those of which an edge clashes with some edge, or on which a feature point lies. The only error
-/// is want of memory. That the list is exactly that of the held arcs is no clause yet.
+/// is want of memory.
 pub fn hold(alloc: Global, map: ArcMap) -> Result<Partly, NoMemory>
-    ensures { IfOk result (λ partly. partly.map ≡ map) }
+    ensures same { IfOk result (λ partly. partly.map ≡ map) }
+    ensures held { IfOk result (λ partly. IsHeldList map partly.held) }
 {
     let index = EdgeIndex::build(alloc, &map)?;
     let mut marks = vec![in alloc; false; map.arc_count() as usize]?;
@@ -83,8 +91,11 @@ pub fn hold(alloc: Global, map: ArcMap) -> Result<Partly, NoMemory>
 // Marks the arcs of edges that clash.
 fn mark_clashes(map: &ArcMap, index: &EdgeIndex, marks: &mut [bool])
     requires index { IsIndexOf map.now index.now }
-    requires marks { length marks.old ≡ length map.now.arcs }
-    ensures { length marks.new ≡ length marks.old }
+    requires long { length marks.old ≡ length map.now.arcs }
+    requires only { MarksHeld map.now marks.old }
+    ensures long { length marks.new ≡ length marks.old }
+    ensures only { MarksHeld map.now marks.new }
+    ensures clashes { MarksClashes map.now marks.new }
 {
     let mut pairs = index.pairs();
     while let Some((e, f)) = pairs.next() {
@@ -95,11 +106,14 @@ fn mark_clashes(map: &ArcMap, index: &EdgeIndex, marks: &mut [bool])
     }
 }
 
-// Marks the arcs on which feature points lie.
+// Marks the arcs on which feature points lie. Then each held arc is marked, and no other.
 fn mark_towns(map: &ArcMap, index: &EdgeIndex, marks: &mut [bool])
     requires index { IsIndexOf map.now index.now }
-    requires marks { length marks.old ≡ length map.now.arcs }
-    ensures { length marks.new ≡ length marks.old }
+    requires long { length marks.old ≡ length map.now.arcs }
+    requires only { MarksHeld map.now marks.old }
+    requires clashes { MarksClashes map.now marks.old }
+    ensures long { length marks.new ≡ length marks.old }
+    ensures exact { (arc : ℕ) → IsMarked marks.new arc ↔ IsHeld map.now arc }
 {
     let mut towns = index.towns();
     while let Some((town, e)) = towns.next() {
@@ -121,7 +135,8 @@ fn mark(marks: &mut [bool], arc: u32)
 // The places of the marks, rising.
 fn marked(alloc: Global, marks: &[bool]) -> Result<Vec<u32>, AllocError>
     requires { length marks.now ≤ 2 ^ 20 }
-    ensures { IfOk result (λ arcs. IsArcList arcs.items) }
+    ensures list { IfOk result (λ arcs. IsArcList arcs.items) }
+    ensures exact { IfOk result (λ arcs. (arc : ℕ) → Contains arcs.items arc ↔ IsMarked marks.now arc) }
 {
     let mut arcs = Vec::new(alloc);
     for (arc, mark) in marks.iter().enumerate() {

@@ -6,4 +6,12 @@ pub mod Skipping
 pub mod Numbering
 pub mod Walking
 pub mod Sweeps
+pub mod Holding
+pub mod Distinct
+pub mod Ranges
+pub mod Reading
+pub mod Gathering
+pub mod Growing
+pub mod Meeting
 pub mod Paired
+pub mod Slabbing

@@ -17,7 +17,7 @@ offset_rises (pos a) (negsuc b) h = omega (arith, ints)
 offset_rises (negsuc a) (pos b) h = omega (arith, ints)
 offset_rises (negsuc a) (negsuc b) h = omega (arith, ints)
 
-div_rises : (a b k : ℕ) → 0 < k → a ≤ b → a / k ≤ b / k
+pub div_rises : (a b k : ℕ) → 0 < k → a ≤ b → a / k ≤ b / k
 div_rises a b k some h = let below = div-mul-le_self a k in le-div (a / k) b k some (omega (arith, below))
 
 capped_rises : (a b top : ℕ) → a ≤ b → min a top ≤ min b top

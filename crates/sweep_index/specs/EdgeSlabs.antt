@@ -1,7 +1,16 @@
--- What the slabs of a map hold.
+-- What the slabs of a map give.
+use Rattle.std.specs.Prelude.{◌/◌, ℤ, List}
+use Rattle.grid_exact.specs.Geometry.{IsGridNumber}
 use Rattle.arc_map.specs.Map.{Map}
-use Rattle.sweep_index.specs.Slabs.{AreEdgesOf}
+use Rattle.arc_map.specs.declared.refs.EdgeRef.{EdgeRef}
+use Rattle.sweep_index.specs.Offsets.{offset_of}
+use Rattle.sweep_index.specs.Slabs.{AreEdgesAt, edges_at, slab_of}
 use Rattle.sweep_index.specs.declared.slabs.EdgeSlabs.{EdgeSlabs}
 
+-- the edges in the slab of x whose x range holds x
+abbrev pub edges_of : EdgeSlabs → ℤ → List EdgeRef
+edges_of slabs x = edges_at (offset_of x) (slab_of (offset_of x / slabs.width) slabs.edges.items)
+
+-- the slabs give just the edges of the map whose x range holds an x, for each x of the grid
 abbrev pub AreSlabsOf : Map → EdgeSlabs → Type 0
-AreSlabsOf m slabs = AreEdgesOf m slabs.edges.items
+AreSlabsOf m slabs = (x : ℤ) → IsGridNumber x → AreEdgesAt m x (edges_of slabs x)

@@ -5,9 +5,11 @@ pub mod Search
 pub mod Walk
 pub mod Area
 pub mod Box
+pub mod Gathered
 pub mod Things
 pub mod Meetings
 pub mod Sweeping
+pub mod Boxes
 pub mod Pairs
 pub mod EdgeIndex
 pub mod EdgeWalks

@@ -1,9 +1,10 @@
 //! The edges of a map by the x that they span.
-ghost use Rattle.std.specs.Prelude.{◌≡◌, ◌<◌, IfOk, OnOk, IfSome, IfNone, All, length, ◌∷◌, []};
+ghost use Rattle.std.specs.Prelude.{◌≡◌, ◌<◌, ◌+◌, ◌-◌, ◌/◌, ◌++◌, IfOk, OnOk, IfSome, IfNone, length, ◌∷◌, []};
+ghost use Rattle.std.specs.List.Sorted.{IsNonDecreasingBy};
 ghost use Rattle.grid_exact.specs.Geometry.{IsGridNumber};
 ghost use Rattle.arc_map.specs.Map.{Map};
-ghost use Rattle.arc_map.specs.Arranged.{IsMapEdge};
-ghost use Rattle.sweep_index.specs.Slabs.{AreEdgesOf, edges_at};
+ghost use Rattle.sweep_index.specs.Gathered.{made_over};
+ghost use Rattle.sweep_index.specs.Slabs.{AreEdgesAt, AreEdgesBefore, edges_at, slab_of};
 
 use crate::bands::Measures;
 use crate::grid::offset;
@@ -26,10 +27,11 @@ pub struct EdgeSlabs {
     edges: Vec<Slabbed>,
     width: u32,
     ghost wide: { 0 < width },
+    ghost sorted: { IsNonDecreasingBy (λ s. s.slab) edges.items },
 }
 
 impl EdgeSlabs {
-    ghost use Rattle.sweep_index.specs.EdgeSlabs.{AreSlabsOf};
+    ghost use Rattle.sweep_index.specs.EdgeSlabs.{AreSlabsOf, edges_of};
     ghost use Rattle.sweep_index.specs.EdgeWalk.{edges_left};
 
     /// The edges of the map by the x that they span. The only error is want of memory.
@@ -48,7 +50,8 @@ impl EdgeSlabs {
     /// Each edge whose closed x range holds x, once.
     pub fn at_x(&self, x: i64) -> EdgeWalk<'_>
         requires { IsGridNumber x }
-        ensures edges { (m : Map) → AreSlabsOf m self.now → All (IsMapEdge m) (edges_left result) }
+        ensures value { edges_left result ≡ edges_of self.now x }
+        ensures edges { (m : Map) → AreSlabsOf m self.now → AreEdgesAt m x (edges_left result) }
     {
         let x = offset(x);
         EdgeWalk {
@@ -60,7 +63,8 @@ impl EdgeSlabs {
 
 // The edges of one slab.
 fn in_slab(edges: &[Slabbed], slab: u32) -> &[Slabbed]
-    ensures { (m : Map) → AreEdgesOf m edges.now → AreEdgesOf m result.now }
+    requires { IsNonDecreasingBy (λ s. s.slab) edges.now }
+    ensures { result.now ≡ slab_of slab edges.now }
 {
     let start = edges.partition_point(|edge| edge.slab < slab);
     let behind = &edges[start..];
@@ -72,8 +76,8 @@ fn in_slab(edges: &[Slabbed], slab: u32) -> &[Slabbed]
 fn push_arc(edges: &mut Vec<Slabbed>, map: &ArcMap, arc: u32, width: u32) -> Result<(), AllocError>
     requires arc { arc < length map.now.arcs }
     requires wide { 0 < width }
-    requires so_far { AreEdgesOf map.now edges.old.items }
-    ensures { OnOk result (AreEdgesOf map.now edges.new.items) }
+    requires so_far { AreEdgesBefore map.now width arc 0 edges.old.items }
+    ensures { OnOk result (AreEdgesBefore map.now width (arc + 1) 0 edges.new.items) }
 {
     let positions = map.arc(arc);
     for at in 1..positions.len() {
@@ -96,7 +100,7 @@ fn push_edge(
     width: u32,
 ) -> Result<(), AllocError>
     requires { 0 < width }
-    ensures { OnOk result ((m : Map) → IsMapEdge m edge → AreEdgesOf m edges.old.items → AreEdgesOf m edges.new.items) }
+    ensures { OnOk result (edges.new.items ≡ edges.old.items ++ made_over (λ slab. record { slab = slab; west = west; east = east; edge = edge }) (west / width) (east / width + 1 - west / width)) }
 {
     for slab in west / width..=east / width {
         edges.push(Slabbed {

@@ -1,8 +1,10 @@
 //! Worked examples of items in boxes and of edges that come near one another.
+ghost use Rattle.std.specs.Prelude.{◌≢◌};
+
 use super::*;
 use arc_map::{ArcMap, EdgeRef};
 use grid_exact::Point;
-use std::alloc::Global;
+use std::alloc::{AllocError, Global};
 use std::test::*;
 
 fn point(x: i64, y: i64) -> Result<Point, Fail> {
@@ -45,5 +47,54 @@ fn items_stand_in_boxes(rt: HostRuntime) -> Result<(), Fail> {
     index.drop_item(2);
     let left = numbers(rt.alloc(), index.in_box(point(1, 0)?, point(3, 2)?))?;
     assert!(rt; left.as_slice() == [0].as_slice());
+    Ok(())
+}
+
+// The map of two arcs, each of one edge, and a feature point.
+fn map_of(
+    alloc: Global,
+    a: Point,
+    b: Point,
+    c: Point,
+    d: Point,
+    town: Point,
+) -> Result<ArcMap, AllocError>
+    requires first { a ≢ b }
+    requires second { c ≢ d }
+{
+    let first = vec![in alloc; a, b]?;
+    let second = vec![in alloc; c, d]?;
+    let arcs = vec![in alloc; first, second]?;
+    let points = vec![in alloc; town]?;
+    Ok(ArcMap::new(arcs, points, Vec::new(alloc), false))
+}
+
+#[test]
+fn boxes_that_touch_meet(rt: HostRuntime) -> Result<(), Fail> {
+    let first = EdgeRef { arc: 0, at: 0 };
+    let second = EdgeRef { arc: 1, at: 0 };
+    let (a, b, c) = (point(0, 0)?, point(4, 2)?, point(6, 9)?);
+    assert!(rt; a != b);
+    assert!(rt; c != b);
+    let map = map_of(rt.alloc(), a, b, c, b, point(2, 2)?)?;
+    let Ok(index) = EdgeIndex::build(rt.alloc(), &map) else {
+        return Err(Fail::from("memory"));
+    };
+    let mut pairs = index.pairs();
+    assert!(rt; pairs.next() == Some((first, second)));
+    assert!(rt; pairs.next() == None);
+    let mut towns = index.towns();
+    assert!(rt; towns.next() == Some((0, first)));
+    assert!(rt; towns.next() == None);
+    let Ok(slabs) = EdgeSlabs::build(rt.alloc(), &map) else {
+        return Err(Fail::from("memory"));
+    };
+    let mut both = slabs.at_x(b.x());
+    assert!(rt; both.next().is_some());
+    assert!(rt; both.next().is_some());
+    assert!(rt; both.next() == None);
+    let mut last = slabs.at_x(c.x());
+    assert!(rt; last.next() == Some(second));
+    assert!(rt; last.next() == None);
     Ok(())
 }

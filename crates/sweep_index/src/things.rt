@@ -24,9 +24,12 @@ pub struct Extent {
 
 impl Extent {
     ghost use Rattle.sweep_index.specs.Meetings.{do_meet};
+    ghost use Rattle.sweep_index.specs.Things.{IsRound};
 
     // The box round two points.
-    pub fn of(a: Point, b: Point) -> Extent {
+    pub fn of(a: Point, b: Point) -> Extent
+        ensures { IsRound a b result }
+    {
         let (ax, ay) = (offset(a.x()), offset(a.y()));
         let (bx, by) = (offset(b.x()), offset(b.y()));
         Extent {

@@ -1,6 +1,8 @@
 use Rattle.std.proofs.Common.{rules}
-use Rattle.std.proofs.lemmas.List.Sorted.{All-permutation, IsNonDecreasingBy-from_sort_by_key}
-use Rattle.sweep_index.specs.Things.{IsThingOf, key_of}
+use Rattle.std.proofs.lemmas.List.Sorted.{IsNonDecreasingBy-from_sort_by_key}
+use Rattle.sweep_index.specs.Things.{key_of}
+use Rattle.sweep_index.proofs.Growing.{things_reordered}
+use Rattle.sweep_index.proofs.Paired.{pairs_are, towns_are}
 use Rattle.sweep_index.proofs.edges.EdgeIndex.build.Goals as goal
 
 pub invariant_of-result : goal.invariant_of-result
@@ -10,4 +12,12 @@ invariant_of-result c = record {
 }
 
 pub returns : goal.returns
-returns c = All-permutation (λ b. IsThingOf c.args.map.now b.thing) c.in_ok-things.things.items _ c.sort_unstable_by_key.ensures.permutation c.in_ok-things.ensures
+returns c =
+    let m = c.args.map.now in
+    let height = c.height_for-height.result in
+    let things = c.sort_unstable_by_key.new.self.items in
+    let are = things_reordered m height c.in_ok-things.things.items things c.sort_unstable_by_key.ensures.permutation c.in_ok-things.ensures in
+    record {
+      pairs = pairs_are m height things c.height_for-height.ensures are;
+      towns = towns_are m height things c.height_for-height.ensures are;
+    }

@@ -1,11 +1,19 @@
-use Rattle.std.proofs.lemmas.List.Elements.{All-filter, All-map, All-same}
-use Rattle.arc_map.specs.Arranged.{IsMapEdge}
-use Rattle.sweep_index.specs.Slabs.{is_at}
+use Rattle.std.proofs.Common.{◌≡◌, ◌∙◌, ◌/◌, ap, subst, sym}
+use Rattle.std.proofs.lemmas.Int.{to_z-of_z}
+use mir.Syntax.{w64}
+use Rattle.sweep_index.specs.Offsets.{offset_of}
+use Rattle.sweep_index.specs.Slabs.{AreEdgesAt, edges_at, slab_of}
 use Rattle.sweep_index.proofs.slabs.EdgeSlabs.at_x.Goals as goal
 
+pub in_slab-requires : goal.in_slab-requires
+in_slab-requires c = rw c.as_slice.ensures.value c.args.self.now.sorted
+
 pub returns : goal.returns
-returns c = record {
-  edges = λ m all.
-      let here = c.in_slab.ensures m (All-same (λ s. IsMapEdge m s.edge) _ c.args.self.now.edges.items c.as_slice.ensures.value all) in
-      All-map (IsMapEdge m) (λ s. s.edge) _ (All-filter (is_at c.offset-x.result) (λ s. IsMapEdge m s.edge) _ here);
-}
+returns c =
+    let slabs = c.args.self.now in
+    let x : c.offset-x.result ≡ offset_of c.args.x = c.offset-x.ensures.value ∙ ap offset_of (to_z-of_z w64 c.args.x c.ranges.x) in
+    let here = ap (edges_at c.offset-x.result) (c.in_slab.ensures ∙ ap (slab_of (c.offset-x.result / slabs.width)) c.as_slice.ensures.value) ∙ ap (λ n. edges_at n (slab_of (n / slabs.width) slabs.edges.items)) x in
+    record {
+      value = here;
+      edges = λ m are. subst (AreEdgesAt m c.args.x) (sym here) (are c.args.x c.requires);
+    }

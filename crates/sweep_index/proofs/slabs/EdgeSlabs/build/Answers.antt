@@ -1,6 +1,27 @@
-use Rattle.std.proofs.lemmas.List.Sorted.{All-permutation}
-use Rattle.arc_map.specs.Arranged.{IsMapEdge}
+use Rattle.std.proofs.Common.{◌≡◌, length, arith, rules, subst}
+use Rattle.std.proofs.lemmas.List.Sorted.{IsNonDecreasingBy-from_sort_by_key}
+use Rattle.sweep_index.specs.Slabs.{AreEdgesBefore}
+use Rattle.sweep_index.proofs.Growing.{all_edges, edges_reordered, no_edges}
+use Rattle.sweep_index.proofs.Slabbing.{edges_here}
 use Rattle.sweep_index.proofs.slabs.EdgeSlabs.build.Goals as goal
 
+pub loop-arc-init : goal.loop-arc-init
+loop-arc-init c = rw c.new-edges.ensures.items (no_edges c.args.map.now c.slab_width-width.result)
+
+pub loop-arc-preserved : goal.loop-arc-preserved
+loop-arc-preserved c = c.in_ok-push_arc.ensures
+
+pub invariant_of-result : goal.invariant_of-result
+invariant_of-result c = record {
+  wide = c.slab_width-width.ensures;
+  sorted = IsNonDecreasingBy-from_sort_by_key (λ s. s.slab) _ c.sort_unstable_by_key.ensures.sorted (λ a r q k. search rules);
+}
+
 pub returns : goal.returns
-returns c = All-permutation (λ s. IsMapEdge c.args.map.now s.edge) c.loop-arc.edges.items _ c.sort_unstable_by_key.ensures.permutation c.loop-arc.invariant
+returns c x on_grid =
+    let m = c.args.map.now in
+    let width = c.slab_width-width.result in
+    let edges = c.sort_unstable_by_key.new.self.items in
+    let all : c.loop-arc.arc ≡ length m.arcs = omega arith in
+    let are = all_edges m width c.loop-arc.edges.items (subst (λ k. AreEdgesBefore m width k 0 c.loop-arc.edges.items) all c.loop-arc.invariant) in
+    edges_here m width edges c.slab_width-width.ensures (edges_reordered m width c.loop-arc.edges.items edges c.sort_unstable_by_key.ensures.permutation are) x on_grid

@@ -1,5 +1,0 @@
-use Rattle.sweep_index.proofs.Paired.{towns_are_of}
-use Rattle.sweep_index.proofs.edges.EdgeIndex.towns.Goals as goal
-
-pub returns-clause-edges : goal.returns-clause-edges
-returns-clause-edges c m of = rw c.sweep.ensures (towns_are_of m c.args.self.now.height c.args.self.now.things.items of)
