@@ -8,6 +8,7 @@ mod sides;
 
 pub use decide::side;
 pub use laws::sides_tell_crossings;
+pub use search::{comes_before, edge_at};
 pub use sides::Side;
 
 #[cfg(test)]

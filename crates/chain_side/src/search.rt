@@ -16,8 +16,8 @@ pub(crate) fn precedes(frame: Frame, a: Point, b: Point) -> bool
     }
 }
 
-// Whether a comes before b along a chain that rises, or falls, in the order of the frame.
-pub(crate) fn comes_before(frame: Frame, rising: bool, a: Point, b: Point) -> bool
+/// Whether a comes before b along a chain that rises, or falls, in the order of the frame.
+pub fn comes_before(frame: Frame, rising: bool, a: Point, b: Point) -> bool
     ensures { IsTrue result ↔ IsAlong frame rising a b }
 {
     if rising {
@@ -27,9 +27,9 @@ pub(crate) fn comes_before(frame: Frame, rising: bool, a: Point, b: Point) -> bo
     }
 }
 
-// The number of an edge whose start p does not come before, and whose end does not come before p, found by
-// halving.
-pub(crate) fn edge_at(chain: &[Point], frame: Frame, rising: bool, p: Point) -> usize
+/// The number of an edge of a chain whose start p does not come before, and whose end does not come before p, found by
+/// halving. The chain is the list of its vertices, two or more, and p comes neither before the first nor after the last.
+pub fn edge_at(chain: &[Point], frame: Frame, rising: bool, p: Point) -> usize
     requires has_edge { 2 ≤ length chain.now }
     requires from_first { ¬ (IsAlong frame rising p (vertex_at chain.now 0)) }
     requires to_last { ¬ (IsAlong frame rising (vertex_at chain.now (length chain.now - 1)) p) }
