@@ -1,0 +1,9 @@
+pub mod Numbers
+pub mod Near
+pub mod DoubleEdges
+pub mod Twins
+pub mod AllowedPairs
+pub mod Filling
+pub mod Marking
+pub mod ArrangedChains
+pub mod Coordinates

@@ -1,0 +1,53 @@
+//! Other chains that are an edge between the ends of a chain.
+ghost use Rattle.std.specs.Prelude.{◌≡◌, ◌↔◌, ◌<◌, IsTrue, length};
+ghost use Rattle.grid_exact.specs.Segments.{SameEnds};
+ghost use Rattle.arc_map.specs.Ends.{IsEndTable};
+ghost use Rattle.shortcut_graph.specs.Doubles.{AreEndsOf, IsDoubled, IsTwin};
+
+use arc_map::{EndTable, WorkMap};
+use grid_exact::Point;
+
+// Whether another chain than the chain number `k` is one edge between the ends of that chain.
+pub(crate) fn is_doubled(work: &WorkMap, ends: &EndTable, k: u32) -> bool
+    requires chain { k < length work.now.chains }
+    requires ends { IsEndTable work.now.chains ends.now }
+    ensures { IsTrue result ↔ IsDoubled work.now.chains k }
+{
+    let chain = work.chain(k);
+    let (first, last) = (chain[0], chain[chain.len() - 1]);
+    for other in ends.chains_at(first) {
+        if is_twin(work, k, *other, first, last) {
+            return true;
+        }
+    }
+    false
+}
+
+// Whether the chain number `other` is another than the chain number `k`, and one edge between a and b.
+fn is_twin(work: &WorkMap, k: u32, other: u32, a: Point, b: Point) -> bool
+    requires { other < length work.now.chains }
+    ensures { IsTrue result ↔ IsTwin work.now.chains k other a b }
+{
+    other != k && is_edge_between(work.chain(other), a, b)
+}
+
+// Whether the chain is one edge between a and b.
+fn is_edge_between(chain: &[Point], a: Point, b: Point) -> bool
+    ensures { IsTrue result ↔ AreEndsOf a b chain.now }
+{
+    chain.len() == 2 && are_ends(a, b, chain[0], chain[1])
+}
+
+// Whether a and b are c and d, in either order.
+fn are_ends(a: Point, b: Point, c: Point, d: Point) -> bool
+    ensures { IsTrue result ↔ SameEnds a b c d }
+{
+    (is_one(a, c) && is_one(b, d)) || (is_one(a, d) && is_one(b, c))
+}
+
+// Whether two points are one.
+fn is_one(a: Point, b: Point) -> bool
+    ensures { IsTrue result ↔ (a ≡ b) }
+{
+    a.x() == b.x() && a.y() == b.y()
+}

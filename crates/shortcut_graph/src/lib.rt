@@ -1,0 +1,12 @@
+//! The pairs of a chain that are allowed, as rows of bits.
+#![tactic(auto)]
+
+mod doubles;
+mod pairs;
+mod ruler;
+
+pub use pairs::fill;
+pub use ruler::Ruler;
+
+#[cfg(test)]
+mod tests;

@@ -1,0 +1,140 @@
+//! An arc from (0, 0) over (2, 2) to (4, 0) that is cut short, beside one other edge and a feature point.
+ghost use Rattle.std.specs.Prelude.{◌≢◌, ◌<◌, ℕ, IfOk, length};
+ghost use Rattle.arc_map.specs.Chains.{AreChains, IsClearIn};
+ghost use Rattle.map_index.specs.MapIndex.{IsAsRead};
+ghost use Rattle.shortcut_graph.specs.Weighed.{IsColumn};
+
+use crate::*;
+use arc_map::{ArcMap, EndTable, WorkMap};
+use arrangement_check::check;
+use grid_exact::{Bound, Point, Weights};
+use layer_paths::Rows;
+use map_index::MapIndex;
+use monotone_split::split;
+use side_wedge::Beside;
+use std::alloc::{AllocError, Global};
+use std::process::Abort;
+use std::test::*;
+
+fn point(x: i64, y: i64) -> Result<Point, Fail> {
+    Ok(Point::new(x, y).ok_or("a point of the grid")?)
+}
+
+// The map of an arc of one edge, an arc of two, and a feature point.
+fn map_of(
+    alloc: Global,
+    edge: (Point, Point),
+    arc: (Point, Point, Point),
+    town: Point,
+) -> Result<ArcMap, AllocError>
+    requires edge { edge.0 ≢ edge.1 }
+    requires first { arc.0 ≢ arc.1 }
+    requires second { arc.1 ≢ arc.2 }
+{
+    let first = vec![in alloc; edge.0, edge.1]?;
+    let second = vec![in alloc; arc.0, arc.1, arc.2]?;
+    let arcs = vec![in alloc; first, second]?;
+    let points = vec![in alloc; town]?;
+    Ok(ArcMap::new(arcs, points, Vec::new(alloc), false))
+}
+
+// The map at work, if it is arranged.
+fn work_on(alloc: Global, map: ArcMap) -> Result<WorkMap, Fail>
+    ensures chains { IfOk result (λ work. AreChains work.chains) }
+    ensures clear { IfOk result (λ work. (k : ℕ) → IsClearIn work.chains work.read.points k) }
+    ensures read { IfOk result (λ work. (k : ℕ) → k < length work.chains → IsAsRead work k) }
+{
+    let Ok(arranged) = check(alloc, map) else {
+        return Err(Fail::from("not arranged"));
+    };
+    let map = arranged.into_map();
+    let Ok(refs) = split(alloc, &map) else {
+        return Err(Fail::from("memory"));
+    };
+    match WorkMap::new(alloc, map, refs) {
+        Ok(work) => Ok(work),
+        Err(_) => Err(Fail::from("memory")),
+    }
+}
+
+// The coordinates across.
+fn across(alloc: Global, places: &[Point]) -> Result<Vec<i64>, AllocError>
+    ensures { IfOk result (λ xs. IsColumn (λ p. p.x) places.now xs.items (length places.now)) }
+{
+    let mut xs = Vec::new(alloc);
+    for place in places {
+        xs.push(place.x())?;
+    }
+    Ok(xs)
+}
+
+// The coordinates up.
+fn up(alloc: Global, places: &[Point]) -> Result<Vec<i64>, AllocError>
+    ensures { IfOk result (λ ys. IsColumn (λ p. p.y) places.now ys.items (length places.now)) }
+{
+    let mut ys = Vec::new(alloc);
+    for place in places {
+        ys.push(place.y())?;
+    }
+    Ok(ys)
+}
+
+// Whether the pair of the first and the third vertex of the second chain is allowed at bound 5.
+fn is_allowed(alloc: Global, work: &WorkMap) -> Result<bool, Fail>
+    requires chain { 1 < length work.now.chains }
+    requires chains { AreChains work.now.chains }
+    requires clear { IsClearIn work.now.chains work.now.read.points 1 }
+    requires read { (k : ℕ) → k < length work.now.chains → IsAsRead work.now k }
+{
+    let Ok(ends) = EndTable::build(alloc, work) else {
+        return Err(Fail::from("memory"));
+    };
+    let Ok(index) = MapIndex::build(alloc, work) else {
+        return Err(Fail::from("memory"));
+    };
+    let Ok(mut beside) = Beside::with_room(alloc, index.item_count()) else {
+        return Err(Fail::from("memory"));
+    };
+    let Ok(mut rows) = Rows::new(alloc) else {
+        return Err(Fail::from("memory"));
+    };
+    beside.load(work, 1, &index);
+    let Some(weights) = Weights::new(1, 1) else {
+        return Err(Fail::from("weights"));
+    };
+    let bound = Bound::new(5).ok_or("a bound")?;
+    let places = work.chain(1);
+    let xs = across(alloc, places)?;
+    let ys = up(alloc, places)?;
+    let ruler = Ruler {
+        xs: &xs,
+        ys: &ys,
+        bound,
+        weights,
+    };
+    let mut row = vec![in alloc; false; places.len()]?;
+    fill(&mut rows, work, &ends, 1, &beside, &ruler, &mut row);
+    Ok(rows.get(0, 2))
+}
+
+// Whether the arc may be cut short, beside an edge of this height and a feature point at (2, town).
+fn may_be_cut(rt: &impl Abort, alloc: Global, height: i64, town: i64) -> Result<bool, Fail> {
+    let edge = (point(0, height)?, point(4, height)?);
+    let arc = (point(0, 0)?, point(2, 2)?, point(4, 0)?);
+    assert!(rt; edge.0 != edge.1);
+    assert!(rt; arc.0 != arc.1);
+    assert!(rt; arc.1 != arc.2);
+    let map = map_of(alloc, edge, arc, point(2, town)?)?;
+    let work = work_on(alloc, map)?;
+    assert_eq!(rt; work.chain_count(), 2);
+    is_allowed(alloc, &work)
+}
+
+#[test]
+fn what_stands_against_a_pair(rt: HostRuntime) -> Result<(), Fail> {
+    // a town below the arc, one above it, and an edge between its ends
+    for (height, town, want) in [(-9, 1, false), (-9, 3, true), (0, 3, false)] {
+        assert_eq!(rt; may_be_cut(&rt, rt.alloc(), height, town)?, want);
+    }
+    Ok(())
+}

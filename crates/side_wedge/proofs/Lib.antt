@@ -1,0 +1,16 @@
+pub mod Rays
+pub mod Tighter
+pub mod Sidelong
+pub mod Boxed
+pub mod Spanning
+pub mod Written
+pub mod Narrowing
+pub mod Gathering
+pub mod Loading
+pub mod Closed
+pub mod Beyond
+pub mod RunsOf
+pub mod ClearOf
+pub mod ByEdges
+pub mod Exact
+pub mod Worked

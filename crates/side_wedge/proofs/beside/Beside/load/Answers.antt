@@ -1,0 +1,33 @@
+-- The strays are laid out in rows.
+use Rattle.std.proofs.Common.{◌-◌, ◌*◌, length, refl, arith, rules}
+use Rattle.side_wedge.specs.Flanks.{Flanks}
+use Rattle.side_wedge.proofs.Loading.{starts_by, of_strays_by, starts_rise, starts_within, laid_by, laid_beside}
+use Rattle.side_wedge.proofs.beside.Beside.load.Goals as goal
+
+pub invariant_of-self : goal.invariant_of-self
+invariant_of-self c =
+    let strays = c.gather.new.strays.items in
+    let rows = 2 * (length c.chain-chain.result.now - 1) in
+    let starts = starts_by strays c.deref.result.now c.write_starts.new.starts.items rows c.deref.ensures.value c.write_starts.ensures.count c.write_starts.ensures.right in
+    let of = of_strays_by strays c.deref-2.result.now c.write_places.new.xs.items c.write_places.new.ys.items c.deref-2.ensures.value c.write_places.ensures.across c.write_places.ensures.up in
+    let count = starts.count in
+    record {
+      coordinates = c.write_places.ensures.coordinates;
+      ordered = λ row within. starts_rise strays c.write_starts.new.starts.items rows row starts (omega arith);
+      within = λ row within. starts_within strays c.write_starts.new.starts.items rows row c.write_places.new.xs.items c.write_places.new.ys.items starts of within;
+      stray_room = search rules;
+      x_room = search rules;
+      y_room = search rules;
+      start_room = search rules;
+    }
+
+pub returns-clause-beside : goal.returns-clause-beside
+returns-clause-beside c =
+    let w = c.args.work.now in
+    let strays = c.gather.new.strays.items in
+    let rows = 2 * (length c.chain-chain.result.now - 1) in
+    let starts = starts_by strays c.deref.result.now c.write_starts.new.starts.items rows c.deref.ensures.value c.write_starts.ensures.count c.write_starts.ensures.right in
+    let of = of_strays_by strays c.deref-2.result.now c.write_places.new.xs.items c.write_places.new.ys.items c.deref-2.ensures.value c.write_places.ensures.across c.write_places.ensures.up in
+    let b : Flanks = record { room = c.self.inside.room; frame = c.frame-frame.result; xs = c.write_places.new.xs.items; ys = c.write_places.new.ys.items; starts = c.write_starts.new.starts.items } in
+    laid_beside w.chains w.read.points c.args.k c.rises.result c.args.index.now.items strays b
+    (laid_by w.chains w.read.points c.args.k c.rises.result c.args.index.now.items strays b c.chain-chain.result.now rows c.frame-frame.ensures.value c.chain-chain.ensures.places refl c.requires.index.items c.rises.ensures c.gather.ensures.strays starts of c.frame-frame.ensures.edges)

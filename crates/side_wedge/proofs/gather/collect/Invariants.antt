@@ -1,0 +1,14 @@
+-- The strays among the items so far.
+use Rattle.std.proofs.Common.{◌≡◌, ◌≤◌, ◌++◌, length, vec_capacity}
+use Rattle.sweep_index.specs.Walk.{items_left}
+use Rattle.side_wedge.specs.Gathered.{AreStraysOf}
+use Rattle.side_wedge.proofs.gather.collect.Given as goal
+
+abbrev pub invariant-loop-item : goal.invariant-loop-item
+invariant-loop-item l =
+    (goal.iterator-loop-item).can_next l.item-iterator ×
+    (goal.iterator-loop-item).is_finite l.item-iterator ×
+    (items_left l.fn.walk ≡ l.yielded ++ items_left l.item-iterator) ×
+    (length l.strays.items ≤ length l.yielded) ×
+    (vec_capacity l.strays ≡ vec_capacity l.fn.strays) ×
+    AreStraysOf l.frame l.rising l.chain l.k l.yielded l.strays.items

@@ -1,0 +1,11 @@
+pub mod Obstacles
+pub mod Lines
+pub mod Limits
+pub mod Wedge
+pub mod Flanks
+pub mod Strays
+pub mod Corners
+pub mod Layout
+pub mod Rows
+pub mod Gathered
+pub mod Laws

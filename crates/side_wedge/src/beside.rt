@@ -1,0 +1,176 @@
+//! What stands beside one chain, and the consistency of its pairs.
+ghost use Rattle.std.specs.Prelude.{◌≡◌, ◌↔◌, ◌+◌, ◌-◌, ◌*◌, ◌<◌, ◌≤◌, ℕ, true, false, IfOk, IsTrue, length, slice_index_or};
+ghost use Rattle.grid_exact.specs.Geometry.{Place};
+ghost use Rattle.chain_side.specs.Along.{IsAlong, vertex_at};
+ghost use Rattle.lane_kernels.specs.declared.side.Hand.{Hand};
+ghost use Rattle.arc_map.specs.Chains.{chain_at, AreChains, IsClearIn};
+ghost use Rattle.map_index.specs.MapIndex.{IsIndexAt};
+ghost use Rattle.side_wedge.specs.Obstacles.{IsConsistentPair};
+ghost use Rattle.side_wedge.specs.Flanks.{IsBeside, StandsInRow, KeepsSides, row_of};
+ghost use Rattle.side_wedge.specs.Rows.{IsRow, KeepsAll};
+ghost use Rattle.side_wedge.specs.Strays.{RunsAlong};
+ghost use Rattle.side_wedge.specs.Wedge.{Lets, StartsAt, IsPast};
+
+use crate::gather::gather;
+use crate::strays::{Stray, rises, write_places, write_starts};
+use crate::wedge::Wedge;
+use arc_map::{NoMemory, WorkMap};
+use grid_exact::{Frame, Point};
+use lane_kernels::Hand;
+use map_index::MapIndex;
+use std::alloc::Global;
+use std::marker::Model;
+
+// How many rows a chain has at most, and the end of the last: two rows to an edge.
+const MOST_STARTS: usize = 2 * 1023 + 1;
+
+/// What stands beside the edges of one chain, in memory that is taken once. Contracts see the places by their rows, two to an
+/// edge, and for how many there is room.
+#[derive(Drop)]
+pub struct Beside {
+    room: usize,
+    frame: Frame,
+    strays: Vec<Stray>,
+    xs: Vec<i64>,
+    ys: Vec<i64>,
+    starts: Vec<usize>,
+}
+
+impl Model for Beside {
+    ghost use Rattle.side_wedge.specs.Flanks.{Flanks};
+
+    ghost Value = { Flanks };
+
+    ghost use Rattle.side_wedge.specs.Layout.{flanks_of, AreLaid};
+
+    ghost view = { flanks_of };
+
+    ghost invariant = { AreLaid };
+}
+
+impl Beside {
+    /// Nothing yet, with room for what stands beside a chain among so many items. The only error is want of memory.
+    pub fn with_room(alloc: Global, items: usize) -> Result<Beside, NoMemory>
+        ensures { IfOk result (λ beside. beside.room ≡ items) }
+    {
+        Ok(Beside {
+            room: items,
+            frame: Frame::Plain,
+            strays: Vec::with_capacity(alloc, items)?,
+            xs: Vec::with_capacity(alloc, items)?,
+            ys: Vec::with_capacity(alloc, items)?,
+            starts: Vec::with_capacity(alloc, MOST_STARTS)?,
+        })
+    }
+
+    /// Finds what stands beside chain number `k` of the map: feature points and vertices of other chains. It takes no memory.
+    pub fn load(&mut self, work: &WorkMap, k: u32, index: &MapIndex)
+        requires chain { k < length work.now.chains }
+        requires chains { AreChains work.now.chains }
+        requires index { IsIndexAt work.now index.now }
+        requires room { length index.now.items.numbered ≤ self.old.room }
+        ensures beside { IsBeside work.now.chains work.now.read.points k self.new }
+        ensures room { self.new.room ≡ self.old.room }
+    {
+        let chain = work.chain(k);
+        let frame = index.frame(work, k);
+        gather(
+            &mut self.strays,
+            chain,
+            frame,
+            rises(chain, frame),
+            k,
+            index,
+        );
+        write_starts(&mut self.starts, &self.strays, 2 * (chain.len() as u32 - 1));
+        write_places(&mut self.xs, &mut self.ys, &self.strays);
+        self.frame = frame;
+    }
+
+    /// Tells of each vertex number j past the vertex number i of chain number `k`, in place j of the row, whether the pair
+    /// (i, j) is consistent: whether nothing changes sides where the chain from i to j becomes a straight edge. The rest of the
+    /// row may be anything.
+    pub fn consistent_from(&self, work: &WorkMap, k: u32, i: usize, row: &mut [bool])
+        requires chain { k < length work.now.chains }
+        requires chains { AreChains work.now.chains }
+        requires clear { IsClearIn work.now.chains work.now.read.points k }
+        requires beside { IsBeside work.now.chains work.now.read.points k self.now }
+        requires start { i < length (chain_at work.now.chains k).rest }
+        requires row { length row.old ≡ length (chain_at work.now.chains k).rest + 1 }
+        ensures consistent { (j : ℕ) → i < j → j < length row.new → (IsTrue (slice_index_or row.new j false) ↔ IsConsistentPair work.now.chains work.now.read.points k i j) }
+        ensures length { length row.new ≡ length row.old }
+    {
+        if self.is_empty() {
+            allow_from(row, i + 1);
+        } else {
+            let chain = work.chain(k);
+            let frame = self.frame();
+            self.write_row(chain, frame, rises(chain, frame), i, row);
+        }
+    }
+
+    // The frame of the chain.
+    fn frame(&self) -> Frame
+        ensures { result ≡ self.now.frame }
+    {
+        self.frame
+    }
+
+    // Whether nothing stands in any row.
+    fn is_empty(&self) -> bool
+        ensures { IsTrue result → (row : ℕ) (p : Place) → ¬ (StandsInRow self.now row p) }
+    {
+        self.xs.is_empty()
+    }
+
+    // Tells of each vertex number j past the vertex number i whether what stands between them keeps its side.
+    fn write_row(&self, chain: &[Point], frame: Frame, rising: bool, i: usize, row: &mut [bool])
+        requires start { i + 1 < length chain.now }
+        requires short { length chain.now ≤ 1024 }
+        requires row { length row.old ≡ length chain.now }
+        requires rows { length self.now.starts + 1 ≡ 2 * length chain.now }
+        requires runs { RunsAlong frame rising chain.now }
+        requires past { (s : ℕ) (hand : Hand) (p : Place) → i ≤ s → s + 1 < length chain.now → StandsInRow self.now (row_of s hand) p → IsAlong frame rising (vertex_at chain.now i) p }
+        ensures told { (j : ℕ) → i < j → j < length row.new → (IsTrue (slice_index_or row.new j false) ↔ KeepsAll self.now chain.now i j) }
+        ensures length { length row.new ≡ length row.old }
+    {
+        let mut wedge = Wedge::start(frame, chain[i], rising);
+        for edge in i..chain.len() - 1 {
+            self.narrow(&mut wedge, edge);
+            row[edge + 1] = wedge.lets(chain[edge + 1]);
+        }
+    }
+
+    // Takes what stands beside the edge into the wedge.
+    fn narrow(&self, wedge: &mut Wedge, edge: usize)
+        requires few { edge < 1024 }
+        requires rows { 2 * edge + 2 < length self.now.starts }
+        requires past { (hand : Hand) (p : Place) → StandsInRow self.now (row_of edge hand) p → IsPast wedge.old p }
+        ensures lets { (v : Place) → IsPast wedge.new v → Lets wedge.new v ↔ (Lets wedge.old v × KeepsSides self.now edge wedge.old.origin v) }
+        ensures origin { StartsAt wedge.new wedge.old.frame wedge.old.rising wedge.old.origin }
+    {
+        let (xs, ys) = self.row(2 * edge);
+        wedge.take_points(xs, ys, Hand::Left);
+        let (xs, ys) = self.row(2 * edge + 1);
+        wedge.take_points(xs, ys, Hand::Right);
+    }
+
+    // The coordinates of the places in a row.
+    fn row(&self, row: usize) -> (&[i64], &[i64])
+        requires { row + 1 < length self.now.starts }
+        ensures { IsRow self.now row result.0.now result.1.now }
+    {
+        let start = self.starts[row];
+        let end = self.starts[row + 1];
+        (&self.xs[start..end], &self.ys[start..end])
+    }
+}
+
+// Sets the places from the number `from` on.
+fn allow_from(row: &mut [bool], from: usize)
+    requires { from ≤ length row.old }
+    ensures set { (j : ℕ) → from ≤ j → j < length row.new → slice_index_or row.new j false ≡ true }
+    ensures length { length row.new ≡ length row.old }
+{
+    row[from..].fill(true);
+}
