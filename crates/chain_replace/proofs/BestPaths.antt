@@ -1,0 +1,167 @@
+-- Best paths and layers: there is one of each, layers certify the best path, and a path's numbers rise from the first vertex to the last.
+use Rattle.std.proofs.Common.{◌≡◌, ◌∙◌, ℕ, zero, suc, ◌+◌, ◌-◌, ◌<◌, ◌≤◌, List, [], ◌∷◌, inl, inr, length, get_or, slice_index, drop, refl, sym, ap, subst, arith}
+use Rattle.std.specs.List.Sorted.{IsStrictlyIncreasing}
+use Rattle.std.proofs.lemmas.Grind.{same_number_lists}
+use Rattle.grid_exact.specs.Paths.{LeadsTo, IsPath, IsLeastSteps, AreLayers, Precedes, IsBestPath, Certifies}
+use Rattle.grid_exact.proofs.Certificates.{certify, LeadsTo-below}
+use Rattle.arc_map.specs.Chains.{Chain}
+use Rattle.arc_map.specs.Work.{AreKeptIn}
+use Rattle.chain_replace.specs.Finder.{AreAlike}
+
+-- ---- there is one of each
+
+both_precede : (xs ys : List ℕ) → length xs ≡ length ys → Precedes xs ys → Precedes ys xs → xs ≡ ys
+both_precede [] [] same first second = refl
+both_precede [] (y ∷ ys) same first second = absurd (omega arith)
+both_precede (x ∷ xs) [] same first second = absurd (omega arith)
+both_precede (x ∷ xs) (y ∷ ys) same (inl less) (inl more) = absurd (omega arith)
+both_precede (x ∷ xs) (y ∷ ys) same (inl less) (inr back) = let e = back.0 in absurd (omega arith)
+both_precede (x ∷ xs) (y ∷ ys) same (inr on) (inl more) = let e = on.0 in absurd (omega arith)
+both_precede (x ∷ xs) (y ∷ ys) same (inr on) (inr back) =
+    let first = on.0 in
+    let rest = both_precede xs ys (omega arith) on.1 back.1 in
+    cc
+
+pub best_path_is_one : (Pair : ℕ → ℕ → Type 0) (m : ℕ) (path other : List ℕ) → IsBestPath Pair m path → IsBestPath Pair m other → path ≡ other
+best_path_is_one Pair m path other best as_good =
+    let same : length path ≡ length other = omega (arith, best.fewest other as_good.leads, as_good.fewest path best.leads) in
+    both_precede path other same (best.first other as_good.leads (sym same)) (as_good.first path best.leads same)
+
+least_is_one : (Pair : ℕ → ℕ → Type 0) (m i n k : ℕ) → IsLeastSteps Pair m i n → IsLeastSteps Pair m i k → n ≡ k
+least_is_one Pair m i n k first second =
+    omega (arith, first.least second.some.0 second.some.1, second.least first.some.0 first.some.1, first.some.2, second.some.2)
+
+pub layers_are_one : (Pair : ℕ → ℕ → Type 0) (m : ℕ) (layers others : List ℕ) → AreLayers Pair m layers → AreLayers Pair m others → layers ≡ others
+layers_are_one Pair m layers others first second =
+    same_number_lists layers others (first.count ∙ sym second.count) (λ k below.
+    let within : k ≤ m = omega (arith, first.count) in
+    least_is_one Pair m k (slice_index layers k) (slice_index others k) (first.each k within) (second.each k within))
+
+-- ---- layers certify the best path
+
+-- what a path has after its first vertex
+pub path_leads : (Pair : ℕ → ℕ → Type 0) (m : ℕ) (path : List ℕ) → IsPath Pair m path → LeadsTo Pair m 0 (drop 1 path) × (length path ≡ suc (length (drop 1 path)))
+path_leads Pair m [] none = absurd none
+path_leads Pair m (start ∷ rest) path = (path.1, refl)
+
+path_from : (Pair : ℕ → ℕ → Type 0) (m : ℕ) (rest : List ℕ) → LeadsTo Pair m 0 rest → IsPath Pair m (0 ∷ rest)
+path_from Pair m rest leads = (refl, leads)
+
+pub best_is_certified : (Pair : ℕ → ℕ → Type 0) (m : ℕ) (path layers : List ℕ) → IsBestPath Pair m path → AreLayers Pair m layers → Certifies Pair m (length path - 1) layers
+best_is_certified Pair m path layers best known =
+    let sure = certify Pair m layers known in
+    let start = known.each 0 (omega arith) in
+    let own = path_leads Pair m path best.leads in
+    let steps : slice_index layers 0 ≡ length path - 1 =
+    omega (arith, start.least (drop 1 path) own.0, own.1, start.some.2, best.fewest (0 ∷ start.some.0) (path_from Pair m start.some.0 start.some.1)) in
+    subst (λ (r : ℕ). Certifies Pair m r layers) steps sure
+
+-- ---- a path's numbers
+
+rising_from : (Pair : ℕ → ℕ → Type 0) (m i : ℕ) (rest : List ℕ) → LeadsTo Pair m i rest → IsStrictlyIncreasing (i ∷ rest)
+rising_from Pair m i [] leads k below = absurd (omega arith)
+rising_from Pair m i (next ∷ rest) leads zero below = leads.0
+rising_from Pair m i (next ∷ rest) leads (suc k) below =
+    let place : suc k + 1 ≡ suc (k + 1) = omega arith in
+    rw place (rising_from Pair m next rest leads.2 k (omega arith))
+
+last_is : (Pair : ℕ → ℕ → Type 0) (m i : ℕ) (rest : List ℕ) → LeadsTo Pair m i rest → get_or (i ∷ rest) (length rest) 0 ≡ m
+last_is Pair m i [] leads = leads
+last_is Pair m i (next ∷ rest) leads = last_is Pair m next rest leads.2
+
+pub path_is_kept : (Pair : ℕ → ℕ → Type 0) (k : Chain) (path : List ℕ) → IsPath Pair (length k.rest) path → AreKeptIn k path
+path_is_kept Pair k [] none = absurd none
+path_is_kept Pair k (start ∷ rest) path =
+    let leads = subst (λ (i : ℕ). LeadsTo Pair (length k.rest) i rest) (sym path.0) path.1 in
+    let place : suc (length rest) - 1 ≡ length rest = omega arith in
+    record {
+      rising = rising_from Pair (length k.rest) start rest leads;
+      some = omega arith;
+      first = path.0;
+      last = rw place (last_is Pair (length k.rest) start rest leads);
+    }
+
+-- ---- a chain of one edge
+
+one_way : (Pair : ℕ → ℕ → Type 0) (rest : List ℕ) → LeadsTo Pair 1 0 rest → rest ≡ 1 ∷ []
+one_way Pair [] leads = absurd (omega arith)
+one_way Pair (next ∷ []) leads = let e = leads.2 in rw e refl
+one_way Pair (next ∷ after ∷ rest) leads = absurd (past next after rest leads.0 leads.2)
+  where
+    past : (next after : ℕ) (rest : List ℕ) → 0 < next → LeadsTo Pair 1 next (after ∷ rest) → ⊥
+    past next after rest up leads = let higher = leads.0 in behind after rest (omega arith) leads.2
+      where
+        behind : (at : ℕ) (rest : List ℕ) → 1 < at → LeadsTo Pair 1 at rest → ⊥
+        behind at [] above there = omega arith
+        behind at (to ∷ more) above there = let higher = there.0 in behind to more (omega arith) there.2
+
+pub single_path : (Pair : ℕ → ℕ → Type 0) → Pair 0 1 → IsBestPath Pair 1 (0 ∷ 1 ∷ [])
+single_path Pair on = record { leads = (refl, (omega arith, on, refl)); fewest = fewest; first = first }
+  where
+    same : (other : List ℕ) → IsPath Pair 1 other → other ≡ 0 ∷ 1 ∷ []
+    same [] none = absurd none
+    same (start ∷ rest) path = let first = path.0 in let way = one_way Pair rest path.1 in cc
+
+    fewest : (other : List ℕ) → IsPath Pair 1 other → 2 ≤ length other
+    fewest other path = omega (arith, ap length (same other path))
+
+    first : (other : List ℕ) → IsPath Pair 1 other → length other ≡ 2 → Precedes (0 ∷ 1 ∷ []) other
+    first other path count = rw (same other path) (inr (refl, inr (refl, tt)))
+
+pub single_layers : (Pair : ℕ → ℕ → Type 0) → Pair 0 1 → AreLayers Pair 1 (1 ∷ 0 ∷ [])
+single_layers Pair on = record { count = refl; each = each }
+  where
+    each : (i : ℕ) → i ≤ 1 → IsLeastSteps Pair 1 i (slice_index (1 ∷ 0 ∷ []) i)
+    each zero within = record {
+      some = (1 ∷ [], (omega arith, on, refl), refl);
+      least = λ rest leads. omega (arith, ap length (one_way Pair rest leads));
+    }
+    each (suc zero) within = record { some = ([], refl, refl); least = λ rest leads. omega arith }
+    each (suc (suc i)) within = absurd (omega arith)
+
+-- ---- how long a path is
+
+steps_left : (Pair : ℕ → ℕ → Type 0) (m i : ℕ) (rest : List ℕ) → LeadsTo Pair m i rest → i + length rest ≤ m
+steps_left Pair m i [] leads = omega arith
+steps_left Pair m i (next ∷ rest) leads = let up = leads.0 in omega (arith, steps_left Pair m next rest leads.2)
+
+pub path_short : (Pair : ℕ → ℕ → Type 0) (m : ℕ) (path : List ℕ) → IsPath Pair m path → length path ≤ m + 1
+path_short Pair m path leads =
+    let parts = path_leads Pair m path leads in
+    omega (arith, parts.1, steps_left Pair m 0 (drop 1 path) parts.0)
+
+-- ---- two sets with the same pairs up to the last vertex
+
+turned : (P Q : ℕ → ℕ → Type 0) (m : ℕ) → AreAlike P Q m → AreAlike Q P m
+turned P Q m alike = record { there = alike.back; back = alike.there }
+
+leads_alike : (P Q : ℕ → ℕ → Type 0) (m i : ℕ) (rest : List ℕ) → AreAlike P Q m → LeadsTo P m i rest → LeadsTo Q m i rest
+leads_alike P Q m i [] alike leads = leads
+leads_alike P Q m i (next ∷ rest) alike leads =
+    (leads.0, alike.there i next leads.0 (LeadsTo-below P m next rest leads.2) leads.1, leads_alike P Q m next rest alike leads.2)
+
+path_alike : (P Q : ℕ → ℕ → Type 0) (m : ℕ) (path : List ℕ) → AreAlike P Q m → IsPath P m path → IsPath Q m path
+path_alike P Q m [] alike none = none
+path_alike P Q m (start ∷ rest) alike path = (path.0, leads_alike P Q m 0 rest alike path.1)
+
+pub best_alike : (P Q : ℕ → ℕ → Type 0) (m : ℕ) (path : List ℕ) → AreAlike P Q m → IsBestPath P m path → IsBestPath Q m path
+best_alike P Q m path alike best =
+    let back = turned P Q m alike in
+    record {
+      leads = path_alike P Q m path alike best.leads;
+      fewest = λ other leads. best.fewest other (path_alike Q P m other back leads);
+      first = λ other leads same. best.first other (path_alike Q P m other back leads) same;
+    }
+
+pub layers_alike : (P Q : ℕ → ℕ → Type 0) (m : ℕ) (layers : List ℕ) → AreAlike P Q m → AreLayers P m layers → AreLayers Q m layers
+layers_alike P Q m layers alike known =
+    let back = turned P Q m alike in
+    record {
+      count = known.count;
+      each = λ i within.
+          let here = known.each i within in
+          record {
+            some = (here.some.0, leads_alike P Q m i here.some.0 alike here.some.1, here.some.2);
+            least = λ rest leads. here.least rest (leads_alike Q P m i rest back leads);
+          };
+    }

@@ -1,0 +1,9 @@
+pub mod BestPaths
+pub mod SameCuts
+pub mod SameOutcome
+pub mod Replacing
+pub mod Sound
+pub mod Weighing
+pub mod Fronts
+pub mod Advancing
+pub mod Ends

@@ -1,0 +1,31 @@
+-- A run begins with the chains of the map, and with room for all of them.
+use Rattle.std.proofs.Common.{◌∙◌, ℕ, List, [], length, refl, ap, sym, subst, arith}
+use Rattle.arc_map.specs.Map.{Map}
+use Rattle.arc_map.specs.Arranged.{IsMapArranged}
+use Rattle.arc_map.specs.Records.{Records}
+use Rattle.arc_map.specs.Work.{work_of, AreChainsIn}
+use Rattle.chain_replace.proofs.Advancing.{under_way_start}
+use Rattle.chain_replace.proofs.run.RunState.new.Goals as goal
+
+-- no records yet, and room for these numbers
+abbrev records_for : ℕ → ℕ → Records
+records_for chains places = record { entries = []; room = chains; kept_room = places; layers_room = places }
+
+pub invariant_of-result : goal.invariant_of-result
+invariant_of-result c =
+    let m = c.args.partly.map in
+    let refs = c.in_ok-chains.chains.items in
+    let chains = subst (λ (n : Map). AreChainsIn n refs) c.map.ensures.same c.in_ok-chains.ensures.chains in
+    let was = subst (λ (hs : List ℕ). IsMapArranged hs m) (sym (c.in_ok-held.ensures ∙ c.held.ensures)) c.map.ensures.arranged in
+    let room = c.chain_count.ensures.value in
+    let vertices = c.vertex_count-vertices.ensures in
+    under_way_start _ m refs
+    (record {
+      work = c.in_ok-work.ensures ∙ ap (λ (n : Map). work_of n refs) c.into_map.ensures;
+      next = refl;
+      index = c.in_ok-index.ensures;
+      ends = c.in_ok-ends.ensures;
+      items = omega (arith, c.in_ok-finder.ensures, c.item_count.ensures);
+      records = c.in_ok-records.ensures ∙ ap (λ (n : ℕ). records_for n c.vertex_count-vertices.result) room ∙ ap (λ (n : ℕ). records_for (length c.in_ok-work.work.chains) n) vertices;
+    })
+    chains was c.requires (omega (arith, room, c.chain_count.ensures.few))

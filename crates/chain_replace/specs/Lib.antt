@@ -1,0 +1,6 @@
+pub mod Run
+pub mod Laws
+pub mod Finder
+pub mod FinderMemory
+pub mod Rooms
+pub mod UnderWay

@@ -1,0 +1,14 @@
+//! The run over the chains of a map: each is replaced by its best path in the map as the chains before it left it.
+#![tactic(auto)]
+
+mod finder;
+mod held;
+mod laws;
+mod run;
+mod weigh;
+
+pub use laws::{layers_certify_path, outcome_is_one, outcome_keeps_faces};
+pub use run::{Outcome, RunState, run_chains};
+
+#[cfg(test)]
+mod tests;
