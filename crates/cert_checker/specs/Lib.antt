@@ -1,0 +1,10 @@
+pub mod Difference
+pub mod Runs
+pub mod Open
+pub mod IndexedMap
+pub mod Judged
+pub mod Judging
+pub mod JudgeState
+pub mod Laws
+pub mod Once
+pub mod Subject
