@@ -4,7 +4,6 @@ use Rattle.std.specs.Prelude.{if◌then◌else◌}
 use Rattle.grid_exact.specs.Geometry.{Place}
 use Rattle.grid_exact.specs.Walks.{count_edges, is_odd, differ}
 use Rattle.arc_map.specs.Arcs.{is_list_crossed_oddly, is_inside_of}
-use Rattle.face_parity.specs.Scratch.{parity_sum}
 
 count-cons : (test : Place → Place → Bool) (v w : Place) (ws : List Place) → count_edges test v (w ∷ ws) ≡ (if test v w then 1 else 0) + count_edges test w ws
 count-cons test v w ws = elim (test v w) as (λ b. (elim b as (λ _. ℕ) [ true ↦ suc (count_edges test w ws) | false ↦ count_edges test w ws ]) ≡ (if b then 1 else 0) + count_edges test w ws) [ true ↦ omega arith | false ↦ omega arith ]
@@ -15,10 +14,10 @@ count-at test v d ws i h = rw (add-one, drop-cons ws i d h) (count-cons test v (
 pub count-next : (test : Place → Place → Bool) (v w : Place) (ws : List Place) (i : ℕ) → i < length ws → w ≡ get_or ws i w → count_edges test v (drop i ws) ≡ (if test v w then 1 else 0) + count_edges test w (drop (i + 1) ws)
 count-next test v w ws i h e = subst (λ z. count_edges test v (drop i ws) ≡ (if test v z then 1 else 0) + count_edges test z (drop (i + 1) ws)) (sym e) (count-at test v w ws i h)
 
-odd-cons : (test : Place → Place → Bool) (v w : Place) (ws : List Place) → is_odd (count_edges test v (w ∷ ws)) ≡ differ (test v w) (is_odd (count_edges test w ws))
+pub odd-cons : (test : Place → Place → Bool) (v w : Place) (ws : List Place) → is_odd (count_edges test v (w ∷ ws)) ≡ differ (test v w) (is_odd (count_edges test w ws))
 odd-cons test v w ws = elim (test v w) as (λ b. is_odd (elim b as (λ _. ℕ) [ true ↦ suc (count_edges test w ws) | false ↦ count_edges test w ws ]) ≡ differ b (is_odd (count_edges test w ws))) [ true ↦ refl | false ↦ refl ]
 
-differ-assoc : (a b c : Bool) → differ (differ a b) c ≡ differ a (differ b c)
+pub differ-assoc : (a b c : Bool) → differ (differ a b) c ≡ differ a (differ b c)
 differ-assoc false b c = refl
 differ-assoc true true true = refl
 differ-assoc true true false = refl
@@ -30,9 +29,6 @@ odd-at test odd v d ws i h = rw (add-one, drop-cons ws i d h, odd-cons test v (g
 
 pub inside-at : (p : Place) (arcs : List (List Place)) (odd : Bool) (refs : List ℕ) (i : ℕ) → i < length refs → differ (differ odd (is_list_crossed_oddly p (get_or arcs (get_or refs i 0) []))) (is_inside_of p arcs (drop (i + 1) refs)) ≡ differ odd (is_inside_of p arcs (drop i refs))
 inside-at p arcs odd refs i h = rw (add-one, drop-cons refs i 0 h) (differ-assoc odd (is_list_crossed_oddly p (get_or arcs (get_or refs i 0) [])) (is_inside_of p arcs (drop (suc i) refs)))
-
-pub sum-at : (parities : List Bool) (odd : Bool) (refs : List ℕ) (i : ℕ) → i < length refs → differ (differ odd (get_or parities (get_or refs i 0) false)) (parity_sum parities (drop (i + 1) refs)) ≡ differ odd (parity_sum parities (drop i refs))
-sum-at parities odd refs i h = rw (add-one, drop-cons refs i 0 h) (differ-assoc odd (get_or parities (get_or refs i 0) false) (parity_sum parities (drop (suc i) refs)))
 
 pub differ-false : (b : Bool) → differ b false ≡ b
 differ-false true = refl

@@ -1,53 +1,55 @@
--- The polygons in which a point lies, one after another.
-use Rattle.std.proofs.Common.{◌≡◌, ℕ, suc, ◌+◌, ◌-◌, ◌<◌, Bool, true, false, List, [], ◌∷◌, ◌++◌, length, Some, append_assoc, refl, ap, arith}
-use Rattle.std.specs.Prelude.{All, slice_get, filter, codes, decimal}
+-- The polygons in which a point lies, in a rising list of some of them.
+use Rattle.std.proofs.Common.{◌≡◌, ◌∙◌, ℕ, zero, suc, ◌+◌, ◌<◌, ◌≤◌, Bool, true, false, cond, List, [], ◌∷◌, ◌++◌, All, AllPairs, Contains, append_assoc, refl, sym, ap, arith, inl, inr}
+use Rattle.std.specs.Prelude.{filter, codes}
 use Rattle.std.specs.List.{range_with_len}
-use Rattle.std.proofs.lemmas.Option.{get_or_from_slice_get}
-use Rattle.std.proofs.lemmas.List.Elements.{All-head, All-tail}
-use Rattle.grid_exact.specs.Geometry.{Place}
-use Rattle.arc_map.specs.Map.{Map}
-use Rattle.arc_map.specs.Arcs.{is_inside, is_inside_of}
-use Rattle.face_parity.specs.Lines.{spaced, numbers_text, still}
-use Rattle.face_parity.specs.Scratch.{AreParities, parity_sum}
+use Rattle.std.proofs.lemmas.Bool.{cases_eq, cond-false, false_from_ne_true}
+use Rattle.std.proofs.lemmas.List.Elements.{All-cons, All-contains, All-head, All-tail, All-weaker}
+use Rattle.sweep_index.proofs.Distinct.{pairs_head, pairs_tail}
+use Rattle.face_parity.proofs.Same.{in-cases, in-none}
 
--- the parities give whether the point is in the rings
-pub sum-is-inside : (m : Map) (p : Place) (parities : List Bool) (refs : List ℕ) → AreParities m p parities → All (λ arc. arc < length m.arcs) refs → parity_sum parities refs ≡ is_inside_of p m.arcs refs
-sum-is-inside m p parities [] set within = refl
-sum-is-inside m p parities (arc ∷ refs) set within =
-    let here = set.each arc (All-head (λ arc. arc < length m.arcs) arc refs within) in
-    rw (here, sum-is-inside m p parities refs set (All-tail (λ arc. arc < length m.arcs) arc refs within)) refl
+module _ (p q : ℕ → Bool) where
+  -- the test fails at each number of the range
+  none : (k n : ℕ) → ((j : ℕ) → k ≤ j → j < k + n → q j ≡ false) → filter q (range_with_len k n) ≡ []
+  none k zero fails = refl
+  none k (suc n) fails = cond-false (q k) (k ∷ filter q (range_with_len (k + 1) n)) (filter q (range_with_len (k + 1) n)) (fails k (omega arith) (omega arith)) ∙ none (k + 1) n (λ j low high. fails j (omega (arith, low)) (omega (arith, high)))
 
-faces_left : Place → Map → ℕ → ℕ → List ℕ
-faces_left p m k n = filter (is_inside p m) (range_with_len k n)
+  same-cond : (b c : Bool) (x : ℕ) (xs ys : List ℕ) → b ≡ c → xs ≡ ys → (let zs : List ℕ = cond b (x ∷ xs) xs in zs) ≡ cond c (x ∷ ys) ys
+  same-cond b c x xs ys e f = rw (e, f) refl
 
-left-in : (p : Place) (m : Map) (k n : ℕ) → is_inside p m k ≡ true → faces_left p m k (suc n) ≡ k ∷ faces_left p m (k + 1) n
-unfolding faces_left
-left-in p m k n e = rw e refl
-
-left-out : (p : Place) (m : Map) (k n : ℕ) → is_inside p m k ≡ false → faces_left p m k (suc n) ≡ faces_left p m (k + 1) n
-unfolding faces_left
-left-out p m k n e = rw e refl
-
-pub still-in : (some : Bool) (p : Place) (m : Map) (k : ℕ) → k < length m.polygons → is_inside p m k ≡ true → still some p m k ≡ codes " " ++ decimal k ++ still true p m (k + 1)
-unfolding faces_left
-still-in true p m k h e =
-    let more : length m.polygons - k ≡ suc (length m.polygons - (k + 1)) = omega arith in
-    rw more (ap spaced (left-in p m k (length m.polygons - (k + 1)) e))
-still-in false p m k h e =
-    let more : length m.polygons - k ≡ suc (length m.polygons - (k + 1)) = omega arith in
-    rw more (ap numbers_text (left-in p m k (length m.polygons - (k + 1)) e))
-
-pub still-out : (some : Bool) (p : Place) (m : Map) (k : ℕ) → k < length m.polygons → is_inside p m k ≡ false → still some p m k ≡ still some p m (k + 1)
-unfolding faces_left
-still-out true p m k h e =
-    let more : length m.polygons - k ≡ suc (length m.polygons - (k + 1)) = omega arith in
-    rw more (ap spaced (left-out p m k (length m.polygons - (k + 1)) e))
-still-out false p m k h e =
-    let more : length m.polygons - k ≡ suc (length m.polygons - (k + 1)) = omega arith in
-    rw more (ap numbers_text (left-out p m k (length m.polygons - (k + 1)) e))
-
-pub odd-inside : (m : Map) (p : Place) (parities : List Bool) (refs : List ℕ) (k : ℕ) → slice_get m.polygons k ≡ Some refs → AreParities m p parities → All (λ arc. arc < length m.arcs) refs → parity_sum parities refs ≡ is_inside p m k
-odd-inside m p parities refs k at set within = rw (get_or_from_slice_get m.polygons k refs [] at) (sum-is-inside m p parities refs set within)
+  -- a rising list of numbers of the range that has all that pass
+  pub filter-range : (k n : ℕ) (xs : List ℕ) → AllPairs (λ x y. x < y) xs → All (λ x. k ≤ x) xs → All (λ x. x < k + n) xs → ((j : ℕ) → k ≤ j → j < k + n → q j ≡ true → Contains xs j) → ((j : ℕ) → k ≤ j → j < k + n → p j ≡ q j) → filter p xs ≡ filter q (range_with_len k n)
+  filter-range k n [] rising low high has agree = sym (none k n (λ j least most. false_from_ne_true (q j) (λ passes. in-none j (has j least most passes))))
+  filter-range k zero (x ∷ xs) rising low high has agree =
+      let least = All-head (λ y. k ≤ y) x xs low in
+      let most = All-head (λ y. y < k + 0) x xs high in
+      absurd (omega (arith, least, most))
+  filter-range k (suc n) (x ∷ xs) rising low high has agree = elim (cases_eq x k) [
+    | inl here ↦
+        let above = pairs_head (λ y z. y < z) x xs rising in
+        let rest = filter-range (k + 1) n xs (pairs_tail (λ y z. y < z) x xs rising)
+        (All-weaker (λ y. x < y) (λ y. k + 1 ≤ y) (λ y more. omega (arith, more, here)) xs above)
+        (All-weaker (λ y. y < k + suc n) (λ y. y < k + 1 + n) (λ y most. omega (arith, most)) xs (All-tail (λ y. y < k + suc n) x xs high))
+        (λ j least most passes. elim (in-cases x j xs (has j (omega (arith, least)) (omega (arith, most)) passes)) [
+          | inl is ↦ absurd (omega (arith, is, here, least))
+          | inr later ↦ later
+        ])
+        (λ j least most. agree j (omega (arith, least)) (omega (arith, most))) in
+        let head : p x ≡ q k = ap p here ∙ agree k (omega arith) (omega arith) in
+        same-cond (p x) (q k) x (filter p xs) (filter q (range_with_len (k + 1) n)) head rest
+        ∙ ap (λ y. cond (q k) (y ∷ filter q (range_with_len (k + 1) n)) (filter q (range_with_len (k + 1) n))) here
+    | inr apart ↦
+        let least = All-head (λ y. k ≤ y) x xs low in
+        let fails : q k ≡ false = false_from_ne_true (q k) (λ passes. elim (in-cases x k xs (has k (omega arith) (omega arith) passes)) [
+          | inl is ↦ apart is
+          | inr later ↦ let more = All-contains (λ y. x < y) xs k (pairs_head (λ y z. y < z) x xs rising) later in omega (arith, more, least)
+        ]) in
+        let rest = filter-range (k + 1) n (x ∷ xs) rising
+        (All-cons (λ y. k + 1 ≤ y) x xs (omega (arith, least, apart)) (All-weaker (λ y. x < y) (λ y. k + 1 ≤ y) (λ y more. omega (arith, more, least)) xs (pairs_head (λ y z. y < z) x xs rising)))
+        (All-weaker (λ y. y < k + suc n) (λ y. y < k + 1 + n) (λ y most. omega (arith, most)) (x ∷ xs) high)
+        (λ j more most passes. has j (omega (arith, more)) (omega (arith, most)) passes)
+        (λ j more most. agree j (omega (arith, more)) (omega (arith, most))) in
+        rest ∙ sym (cond-false (q k) (k ∷ filter q (range_with_len (k + 1) n)) (filter q (range_with_len (k + 1) n)) fails)
+  ]
 
 pub goes-on : (before digits after left now : List ℕ) → now ≡ before ++ codes " " ++ digits → left ≡ codes " " ++ digits ++ after → now ++ after ≡ before ++ left
 goes-on before digits after left now e f = rw (e, f) (simp append_assoc refl)

@@ -2,3 +2,9 @@ pub mod Counting
 pub mod Lengths
 pub mod Holding
 pub mod Besides
+pub mod Sums
+pub mod Same
+pub mod ByArc
+pub mod Turning
+pub mod Parts
+pub mod Found

@@ -1,4 +1,7 @@
 pub mod Crossings
 pub mod Lines
-pub mod Reaches
+pub mod Parities
+pub mod Naming
+pub mod Namings
+pub mod Tally
 pub mod Scratch

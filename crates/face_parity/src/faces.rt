@@ -1,28 +1,35 @@
 //! The lines of `faces`.
-ghost use Rattle.std.specs.Prelude.{◌≡◌, ◌<◌, ◌≤◌, ◌+◌, ◌*◌, ◌^◌, ◌++◌, IfOk, All, length, vec_len, vec_capacity, codes, decimal};
+ghost use Rattle.std.specs.Prelude.{◌≡◌, ◌<◌, ◌≤◌, ◌+◌, ◌*◌, ◌^◌, ◌++◌, ◌∷◌, ℕ, List, false, IfOk, length, filter, vec_len, vec_capacity, codes, decimal};
 ghost use Rattle.std.specs.Fmt.{signed_decimal};
-ghost use Rattle.grid_exact.specs.Geometry.{Place};
-ghost use Rattle.face_parity.specs.Lines.{line_of, faces_of, numbers_text, still};
-ghost use Rattle.face_parity.specs.Reaches.{AreReaches};
-ghost use Rattle.face_parity.specs.Scratch.{AreParities, IsScratchOf, parity_sum, line_in};
+ghost use Rattle.grid_exact.specs.Walks.{differ};
+ghost use Rattle.arc_map.specs.Arcs.{is_inside};
+ghost use Rattle.sweep_index.specs.EdgeSlabs.{AreSlabsOf};
+ghost use Rattle.face_parity.specs.Lines.{line_of, numbers_text, still};
+ghost use Rattle.face_parity.specs.Namings.{AreNamingsOf};
+ghost use Rattle.face_parity.specs.Tally.{IsTally, is_odd_at};
+ghost use Rattle.face_parity.specs.Scratch.{IsScratchOf, line_in};
 
-use crate::crossings::toggled;
-use crate::reach::{Reach, parity_of, reaches_of};
+use crate::crossings::is_map_edge_crossed;
+use crate::namings::Namings;
+use crate::tally::Tally;
 use crate::text::{put, put_coordinate, put_number};
 use arc_map::{ArcMap, NoMemory};
 use grid_exact::Point;
-use std::alloc::{AllocError, Global};
+use std::alloc::Global;
+use sweep_index::EdgeSlabs;
 
 // The longest line without the numbers of polygons, and the longest number of a polygon with its space, in bytes.
 const LINE: usize = 64;
 
 const NUMBER: usize = 8;
 
-/// What is reused from one point of a map to the next: one parity for each arc, and room for the longest line.
+/// What is made once for the points of a map: its edges by their x, the polygons that name each arc, one parity for each
+/// polygon, and room for the longest line.
 #[derive(Drop)]
 pub struct FaceScratch {
-    reaches: Vec<Reach>,
-    parities: Vec<bool>,
+    slabs: EdgeSlabs,
+    namings: Namings,
+    tally: Tally,
     text: Vec<u8>,
 }
 
@@ -31,12 +38,15 @@ impl FaceScratch {
     pub fn new(alloc: Global, topology: &ArcMap) -> Result<FaceScratch, NoMemory>
         ensures { IfOk result (IsScratchOf topology.now) }
     {
-        let reaches = reaches_of(alloc, topology)?;
-        let parities = even_parities(alloc, topology)?;
-        let text = Vec::with_capacity(alloc, LINE + NUMBER * topology.polygon_count() as usize)?;
+        let polygons = topology.polygon_count() as usize;
+        let slabs = EdgeSlabs::build(alloc, topology)?;
+        let namings = Namings::build(alloc, topology)?;
+        let tally = Tally::new(alloc, polygons)?;
+        let text = Vec::with_capacity(alloc, LINE + NUMBER * polygons)?;
         Ok(FaceScratch {
-            reaches,
-            parities,
+            slabs,
+            namings,
+            tally,
             text,
         })
     }
@@ -52,10 +62,12 @@ impl FaceScratch {
     {
         let _points = topology.point_count();
         let p = topology.point(k);
-        set_parities(&mut self.parities, self.reaches.as_slice(), topology, p);
+        self.tally.clear();
+        turn_crossed(&mut self.tally, &self.slabs, &self.namings, topology, p);
+        self.tally.sort();
         self.text.clear();
         write_point(&mut self.text, k, p);
-        write_faces(&mut self.text, self.parities.as_slice(), topology);
+        write_faces(&mut self.text, &self.tally);
         put(&mut self.text, b"\n");
     }
 
@@ -67,22 +79,28 @@ impl FaceScratch {
     }
 }
 
-// One parity for each arc, all even.
-fn even_parities(alloc: Global, topology: &ArcMap) -> Result<Vec<bool>, AllocError>
-    ensures { IfOk result (λ parities. vec_len parities ≡ length topology.now.arcs) }
+// Turns each polygon as often as edges of the arcs that it names are crossed from p, by parity.
+fn turn_crossed(
+    tally: &mut Tally,
+    slabs: &EdgeSlabs,
+    namings: &Namings,
+    topology: &ArcMap,
+    p: Point,
+)
+    requires tally { IsTally tally.old }
+    requires polygons { length tally.old.odd.items ≡ length topology.now.polygons }
+    requires even { (k : ℕ) → is_odd_at tally.old k ≡ false }
+    requires slabs { AreSlabsOf topology.now slabs.now }
+    requires namings { AreNamingsOf topology.now namings.now }
+    ensures tally { IsTally tally.new }
+    ensures polygons { length tally.new.odd.items ≡ length tally.old.odd.items }
+    ensures odd { (k : ℕ) → k < length topology.now.polygons → is_odd_at tally.new k ≡ is_inside p topology.now k }
 {
-    vec![in alloc; false; topology.arc_count() as usize]
-}
-
-// Sets the parity of each arc: whether it is crossed from p an odd number of times.
-fn set_parities(parities: &mut Vec<bool>, reaches: &[Reach], topology: &ArcMap, p: Point)
-    requires reaches { AreReaches topology.now.arcs reaches.now }
-    requires count { vec_len parities.old ≡ length topology.now.arcs }
-    ensures value { AreParities topology.now p parities.new.items }
-    ensures count { vec_len parities.new ≡ length topology.now.arcs }
-{
-    for k in 0..topology.arc_count() {
-        parities[k as usize] = parity_of(reaches[k as usize], topology.arc(k), p);
+    let mut edges = slabs.at_x(p.x());
+    while let Some(edge) = edges.next() {
+        if is_map_edge_crossed(topology, edge, p) {
+            tally.turn_all(namings.of_arc(edge.arc));
+        }
     }
 }
 
@@ -104,34 +122,35 @@ fn write_point(text: &mut Vec<u8>, k: u32, p: Point)
     put(text, b" in");
 }
 
-// Adds the numbers of the polygons in which the point of the parities lies, each after a space, or ` none`.
-fn write_faces(text: &mut Vec<u8>, parities: &[bool], topology: &ArcMap)
-    requires count { length parities.now ≡ length topology.now.arcs }
-    requires room { vec_len text.old + 6 + 8 * length topology.now.polygons ≤ vec_capacity text.old }
-    ensures value { (p : Place) → AreParities topology.now p parities.now → text.new.items ≡ text.old.items ++ numbers_text (faces_of topology.now p) }
+// Adds the numbers of the odd polygons among those that were turned, each after a space, or ` none`.
+fn write_faces(text: &mut Vec<u8>, tally: &Tally)
+    requires tally { IsTally tally.now }
+    requires few { length tally.now.odd.items ≤ 2 ^ 20 }
+    requires room { vec_len text.old + 6 + 8 * length tally.now.odd.items ≤ vec_capacity text.old }
+    ensures value { text.new.items ≡ text.old.items ++ numbers_text (filter (is_odd_at tally.now) tally.now.turned.items) }
     ensures room { vec_len text.new + 1 ≤ vec_capacity text.new }
     ensures capacity { vec_capacity text.old ≤ vec_capacity text.new }
 {
+    let turned = tally.turned();
     let mut some = false;
-    for k in 0..topology.polygon_count() {
-        some = visit(text, parities, topology, k, some);
+    for k in turned {
+        some = visit(text, tally, *k, some);
     }
     if !some {
         put(text, b" none");
     }
 }
 
-// Adds the number of the polygon where the point lies in it. Tells whether some number is written now.
-fn visit(text: &mut Vec<u8>, parities: &[bool], topology: &ArcMap, k: u32, some: bool) -> bool
-    requires count { length parities.now ≡ length topology.now.arcs }
-    requires polygon { k < length topology.now.polygons }
+// Adds the number of the polygon where it is odd. Tells whether some number is written now.
+fn visit(text: &mut Vec<u8>, tally: &Tally, k: u32, some: bool) -> bool
+    requires polygon { k < length tally.now.odd.items }
     requires few { k < 2 ^ 20 }
     requires room { vec_len text.old + 8 ≤ vec_capacity text.old }
-    ensures value { (p : Place) → AreParities topology.now p parities.now → text.new.items ++ still result p topology.now (k + 1) ≡ text.old.items ++ still some p topology.now k }
+    ensures value { (ns : List ℕ) → text.new.items ++ still result (filter (is_odd_at tally.now) ns) ≡ text.old.items ++ still some (filter (is_odd_at tally.now) (k ∷ ns)) }
     ensures short { vec_len text.new ≤ vec_len text.old + 8 }
     ensures capacity { vec_capacity text.old ≤ vec_capacity text.new }
 {
-    if is_odd_sum(parities, topology.polygon(k)) {
+    if tally.is_odd(k) {
         write_face(text, k);
         true
     } else {
@@ -149,16 +168,4 @@ fn write_face(text: &mut Vec<u8>, k: u32)
 {
     put(text, b" ");
     put_number(text, k);
-}
-
-// Whether the parities of the arcs with these numbers, each as often as it is named, are odd in sum.
-fn is_odd_sum(parities: &[bool], arcs: &[u32]) -> bool
-    requires { All (λ arc. arc < length parities.now) arcs.now }
-    ensures { result ≡ parity_sum parities.now arcs.now }
-{
-    let mut odd = false;
-    for arc in arcs {
-        odd = toggled(odd, parities[*arc as usize]);
-    }
-    odd
 }

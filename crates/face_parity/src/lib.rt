@@ -3,7 +3,8 @@
 
 mod crossings;
 mod faces;
-mod reach;
+mod namings;
+mod tally;
 mod text;
 
 pub use crossings::{crossed, inside};

@@ -1,13 +1,12 @@
-use Rattle.std.proofs.Common.{◌≡◌, ◌≤◌, ◌+◌, ◌-◌, ◌*◌, ◌++◌, length, vec_len}
-use Rattle.std.specs.Prelude.{vec_capacity}
-use Rattle.grid_exact.specs.Geometry.{Place}
-use Rattle.face_parity.specs.Lines.{faces_of, numbers_text, still}
-use Rattle.face_parity.specs.Scratch.{AreParities}
+use Rattle.std.proofs.Common.{◌≡◌, ◌≤◌, ◌+◌, ◌-◌, ◌*◌, ◌++◌, drop, length, vec_len}
+use Rattle.std.specs.Prelude.{filter, vec_capacity}
+use Rattle.face_parity.specs.Lines.{numbers_text, still}
+use Rattle.face_parity.specs.Tally.{is_odd_at}
 use Rattle.face_parity.proofs.faces.write_faces.Given as goal
 
 abbrev pub invariant-loop-k : goal.invariant-loop-k
 invariant-loop-k l = record {
-  room : vec_len l.text + 6 + 8 * (length l.topology.polygons - l.k) ≤ vec_capacity l.text;
+  room : vec_len l.text + 6 + 8 * (length l.turned - l.k-index) ≤ vec_capacity l.text;
   capacity : vec_capacity l.fn.text ≤ vec_capacity l.text;
-  value : (p : Place) → AreParities l.topology p l.parities → l.text.items ++ still l.some p l.topology l.k ≡ l.fn.text.items ++ numbers_text (faces_of l.topology p);
+  value : l.text.items ++ still l.some (filter (is_odd_at l.tally) (drop l.k-index l.turned)) ≡ l.fn.text.items ++ numbers_text (filter (is_odd_at l.tally) l.turned);
 }
