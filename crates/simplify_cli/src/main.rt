@@ -1,21 +1,13 @@
-//! The command-line tool: it makes coverages to try map simplification on.
+//! The command-line tool: `simplify`, `layers`, `check`, `faces`, `make` and `demo`, over files and the standard streams.
 #![tactic(auto)]
 
-mod forms;
-mod message;
 mod outside;
-mod run;
-mod status;
-#[cfg(test)]
-mod tests;
-mod words;
 
 use outside::{StdInputs, StdSink};
-use run::run;
-use status::Status;
 use std::process::ExitCode;
 use std::rt::Env;
 use std::{env, io};
+use top_call::{Status, run};
 
 // The number with which the program ends where the system gives no words. No status has it.
 const NO_WORDS: u8 = 16;

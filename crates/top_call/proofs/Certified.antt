@@ -1,0 +1,28 @@
+-- What `layers` writes is the certificate of its run.
+use Rattle.std.proofs.Common.{◌≡◌, ◌∙◌, ℕ, ℤ, List, ap, subst}
+use Rattle.grid_exact.specs.Weights.{Scales}
+use Rattle.arc_map.specs.Map.{Map}
+use Rattle.arc_map.specs.Records.{Record}
+use Rattle.topo_reader.specs.Reads.{TopologyRead}
+use Rattle.cert_format.specs.Certificate.{certificate_text, content}
+use Rattle.chain_replace.specs.Run.{IsOutcome}
+use Rattle.top_call.specs.declared.forms.Options.{Options}
+use Rattle.top_call.specs.Maps.{IsLoaded, scales_of}
+use Rattle.top_call.specs.Answers.{IsCertified, version_of}
+
+pub certified_by : (options : Options) (bound : ℤ) (text bytes : List ℕ) (t : TopologyRead) (held beside : List ℕ) (after : Map) (records : List Record) (w : Scales) (version : ℕ) → IsLoaded options text t held → IsOutcome t.map (record { held = held; bound = bound; weights = w }) after records → w ≡ scales_of options.weights → version ≡ version_of options → beside ≡ held → bytes ≡ certificate_text (content version bound w beside records) → IsCertified options bound text bytes
+certified_by options bound text bytes t held beside after records w version loaded outcome is_w is_version is_held is =
+    record {
+      topology = t;
+      held = held;
+      after = after;
+      records = records;
+      run = record {
+        loaded = loaded;
+        outcome = subst (λ (v : Scales). IsOutcome t.map (record { held = held; bound = bound; weights = v }) after records) is_w outcome;
+      };
+      written = is
+          ∙ ap (λ (n : ℕ). certificate_text (content n bound w beside records)) is_version
+          ∙ ap (λ (v : Scales). certificate_text (content (version_of options) bound v beside records)) is_w
+          ∙ ap (λ (arcs : List ℕ). certificate_text (content (version_of options) bound (scales_of options.weights) arcs records)) is_held;
+    }

@@ -1,0 +1,12 @@
+pub mod Digits
+pub mod OtherWords
+pub mod Spelling
+pub mod Writing
+pub mod Grouping
+pub mod Refusals
+pub mod Certified
+pub mod Checked
+pub mod CountLines
+pub mod Demoed
+pub mod PointLines
+pub mod Settled

@@ -1,0 +1,10 @@
+pub mod Words
+pub mod Requests
+pub mod Parts
+pub mod Messages
+pub mod Codes
+pub mod Verdicts
+pub mod Reading
+pub mod Maps
+pub mod Answers
+pub mod Endings

@@ -1,0 +1,123 @@
+-- What the words of a command line ask for.
+use Rattle.std.specs.Prelude.{ℕ, ◌+◌, ◌-◌, ◌*◌, ◌^◌, ℤ, pos, Bool, true, false, not, List, [], ◌∷◌, ◌&&◌, ◌||◌, ◌==◌, nat_le, nat_lt, length, slice_index, if◌then◌else◌, Option, Some, None, codes, option_and_then}
+use Rattle.std.specs.Char.{is_ascii_digit}
+use Rattle.std.specs.Option.{option_map}
+use Rattle.std.specs.Str.{bytes_eq}
+use Rattle.grid_exact.specs.Weights.{Scales}
+use Rattle.top_call.specs.declared.forms.Options.{Options}
+use Rattle.top_call.specs.declared.words.Task.{Task}
+use Rattle.top_call.specs.declared.words.Task.TheVariants as tasks
+
+-- ---- numbers
+
+-- the number that digits spell behind a number, none where one of these is no digit
+abbrev pub read_digits : ℕ → List ℕ → Option ℕ
+read_digits n [] = Some n
+read_digits n (c ∷ cs) = if is_ascii_digit c then read_digits (10 * n + (c - 48)) cs else None
+
+-- the number, where it is from `least` to `most`
+abbrev pub between : ℕ → ℕ → Option ℕ → Option ℕ
+between least most None = None
+between least most (Some n) = if nat_le least n && nat_le n most then Some n else None
+
+-- the number from `least` to `most` that a word spells in decimal digits with no leading zero
+abbrev pub number_between : ℕ → ℕ → List ℕ → Option ℕ
+number_between least most word = if (length word == 0) || (nat_lt 1 (length word) && (slice_index word 0 == 48)) then None else between least most (read_digits 0 word)
+
+-- the bound that a word spells
+abbrev pub bound_of : List ℕ → Option ℤ
+bound_of word = option_map pos (number_between 0 (2 ^ 30) word)
+
+-- the weights that two words spell
+abbrev pub weights_of : List ℕ → List ℕ → Option Scales
+weights_of wx wy = option_and_then (λ x. option_map (λ y. record { x = pos x; y = pos y }) (number_between 1 65536 wy)) (number_between 1 65536 wx)
+
+-- ---- names of texts
+
+abbrev pub is_name : List ℕ → Bool
+is_name word = not (length word == 0)
+
+-- the name is that of standard input
+abbrev pub is_standard : List ℕ → Bool
+is_standard word = bytes_eq word (codes "-")
+
+-- names, of which at most one is that of standard input
+abbrev pub are_names : List ℕ → List ℕ → List ℕ → Bool
+are_names file out cert =
+    is_name file && is_name out && is_name cert
+    && not (is_standard file && is_standard out) && not (is_standard file && is_standard cert) && not (is_standard out && is_standard cert)
+
+-- ---- forms
+
+-- the forms of a command line
+pub data Form : Type 0 where
+  Simplify : (options : Options) (bound : ℤ) (file : List ℕ) → Form
+  Layers : (options : Options) (bound : ℤ) (file : List ℕ) → Form
+  Check : (options : Options) (bound : ℤ) (file out cert : List ℕ) → Form
+  Faces : (file : List ℕ) → Form
+  Make : (rows cols seed : ℕ) → Form
+  Demo : (rows cols seed : ℕ) (bound : ℤ) → Form
+
+-- what stands behind E: FILE, or FILE OUT CERT
+abbrev pub named_form : Task → Options → ℤ → List (List ℕ) → Option Form
+named_form tasks.Simplify options bound (file ∷ []) = if is_name file then Some (Simplify options bound file) else None
+named_form tasks.Layers options bound (file ∷ []) = if is_name file then Some (Layers options bound file) else None
+named_form tasks.Check options bound (file ∷ out ∷ cert ∷ []) = if are_names file out cert then Some (Check options bound file out cert) else None
+named_form task options bound names = None
+
+-- what stands behind the options: E and names
+abbrev pub bounded_form : Task → Options → List (List ℕ) → Option Form
+bounded_form task options [] = None
+bounded_form task options (bound ∷ names) = option_and_then (λ e. named_form task options e names) (bound_of bound)
+
+-- what stands behind `--weights`: WX WY, E and names
+abbrev pub weighed_form : Task → Bool → List (List ℕ) → Option Form
+weighed_form task hold (wx ∷ wy ∷ words) = option_and_then (λ w. bounded_form task (record { hold = hold; weights = Some w }) words) (weights_of wx wy)
+weighed_form task hold words = None
+
+-- what stands behind `--hold`, or behind the command: `--weights` and more, or E and names
+abbrev pub held_form : Task → Bool → List (List ℕ) → Option Form
+held_form task hold [] = None
+held_form task hold (word ∷ words) =
+    if bytes_eq word (codes "--weights") then weighed_form task hold words
+    else bounded_form task (record { hold = hold; weights = None }) (word ∷ words)
+
+-- what stands behind the command: `--hold` and more, or the same without it
+abbrev pub task_form : Task → List (List ℕ) → Option Form
+task_form task [] = None
+task_form task (word ∷ words) = if bytes_eq word (codes "--hold") then held_form task true words else held_form task false (word ∷ words)
+
+-- `faces FILE`
+abbrev pub faces_form : List (List ℕ) → Option Form
+faces_form (file ∷ []) = if is_name file then Some (Faces file) else None
+faces_form words = None
+
+-- `make R C SEED`
+abbrev pub make_form : List (List ℕ) → Option Form
+make_form (rows ∷ cols ∷ seed ∷ []) =
+    option_and_then (λ r. option_and_then (λ c. option_and_then (λ s. Some (Make r c s))
+    (number_between 0 65536 seed)) (number_between 1 100 cols)) (number_between 1 100 rows)
+make_form words = None
+
+-- `demo R C SEED E`
+abbrev pub demo_form : List (List ℕ) → Option Form
+demo_form (rows ∷ cols ∷ seed ∷ bound ∷ []) =
+    option_and_then (λ r. option_and_then (λ c. option_and_then (λ s. option_and_then (λ e. Some (Demo r c s e))
+    (bound_of bound)) (number_between 0 65536 seed)) (number_between 1 100 cols)) (number_between 1 100 rows)
+demo_form words = None
+
+-- the form of the words behind a command
+abbrev pub command_form : List ℕ → List (List ℕ) → Option Form
+command_form command words =
+    if bytes_eq command (codes "simplify") then task_form tasks.Simplify words
+    else if bytes_eq command (codes "layers") then task_form tasks.Layers words
+    else if bytes_eq command (codes "check") then task_form tasks.Check words
+    else if bytes_eq command (codes "faces") then faces_form words
+    else if bytes_eq command (codes "make") then make_form words
+    else if bytes_eq command (codes "demo") then demo_form words
+    else None
+
+-- the form of the words
+abbrev pub form_of : List (List ℕ) → Option Form
+form_of [] = None
+form_of (command ∷ words) = command_form command words

@@ -1,0 +1,22 @@
+//! The top call of the command-line tool: what the words of a command line ask for is done over texts and sinks that
+//! the caller brings.
+#![tactic(auto)]
+
+mod checking;
+mod demo;
+mod faces;
+mod forms;
+mod loading;
+mod message;
+mod parts;
+mod running;
+mod status;
+mod texts;
+mod thinning;
+mod verdict;
+mod words;
+
+pub use forms::{Options, Request};
+pub use running::run;
+pub use status::{Limit, Meeting, Role, Status};
+pub use words::request;

@@ -1,0 +1,159 @@
+//! The map of a text, arranged or with its held arcs.
+ghost use Rattle.std.specs.Prelude.{◌≡◌, ◌≤◌, ◌^◌, ◌⊎◌, pos, None, All, IfOk, IfErr, MatchOption, length};
+ghost use Rattle.grid_exact.specs.Geometry.{Place};
+ghost use Rattle.grid_exact.specs.Weights.{StaysOnGrid, IsFirstOff};
+ghost use Rattle.topo_reader.specs.TopologyIs.{topology_read, LiesIn};
+ghost use Rattle.top_call.specs.Maps.{HasTopology, IsLoaded, IsRefused, IsUnarranged, AreHeldBeside, IsTextRefusal, IsFirstOffIn, scales_of, ones, scan_status, fault_status, check_status, topology_in};
+ghost use Rattle.top_call.specs.Endings.{IsMapStatus};
+
+use crate::forms::Options;
+use crate::status::{Limit, Meeting, Status};
+use arc_map::ArcMap;
+use arrangement_check::{CheckError, Partly, check, hold};
+use grid_exact::{Point, Weights};
+use json_scan::{ScanError, scan};
+use std::alloc::Global;
+use topo_reader::{ReadFault, Span, Topology, read};
+
+/// The map of a text with its held arcs, beside which it is arranged, and where the value of `arcs` stands.
+#[derive(Drop)]
+pub struct Loaded {
+    pub partly: Partly,
+    pub arcs_at: Span,
+}
+
+// The status of a text that is no JSON text, or that is too deep.
+fn scan_status(error: ScanError) -> Status
+    ensures { result ≡ scan_status error }
+{
+    match error {
+        ScanError::NotUtf8 { at } => Status::NotUtf8(at),
+        ScanError::NotJson { at } => Status::NotJson(at),
+        ScanError::TooDeep { at } => Status::TooLarge(Limit::Depth(at)),
+        ScanError::NoMemory => Status::NoMemory,
+    }
+}
+
+// The status of a text that is no topology.
+fn fault_status(fault: ReadFault) -> Status
+    ensures { result ≡ fault_status fault }
+{
+    match fault {
+        ReadFault::Shape { kind, at } => Status::NotTopology(kind, at),
+        ReadFault::Off { kind, at } => Status::OffProfile(kind, at),
+        ReadFault::TooMany { what, at } => Status::TooLarge(Limit::Many(what, at)),
+        ReadFault::NoMemory => Status::NoMemory,
+    }
+}
+
+// The status of a map that is not arranged.
+fn check_status(error: CheckError) -> Status
+    ensures { result ≡ check_status error }
+{
+    match error {
+        CheckError::Edges(e, f) => Status::NotArranged(Meeting::Edges(e, f)),
+        CheckError::PointOnArc(point, e) => Status::NotArranged(Meeting::PointOnArc(point, e)),
+        CheckError::NoMemory => Status::NoMemory,
+    }
+}
+
+// The topology that a text is.
+fn topology_in(alloc: Global, text: &[u8]) -> Result<Topology, Status>
+    requires { length text.now ≤ 2 ^ 26 }
+    ensures read { IfOk result (λ topology. HasTopology text.now (topology_read topology)) }
+    ensures span { IfOk result (λ topology. LiesIn text.now topology.arcs_at) }
+    ensures refused { IfErr result (λ s. (s ≡ Status.NoMemory) ⊎ IsTextRefusal text.now s) }
+{
+    let scanned = match scan(alloc, text) {
+        Ok(scanned) => scanned,
+        Err(error) => return Err(scan_status(error)),
+    };
+    match read(alloc, &scanned) {
+        Ok(topology) => Ok(topology),
+        Err(fault) => Err(fault_status(fault)),
+    }
+}
+
+/// The weights of the axes, 1 and 1 where the words name none.
+pub fn weights_of(options: &Options) -> Weights
+    ensures { result ≡ scales_of options.now.weights }
+{
+    match options.weights {
+        Some(weights) => weights,
+        None => Weights::new(1, 1).unwrap(),
+    }
+}
+
+// The place in the arc of the first position that the weights take off the grid. Weights of 1 take none off.
+fn first_off_in(weights: Weights, arc: &[Point]) -> Option<u32>
+    requires { length arc.now ≤ 2 ^ 20 }
+    ensures value { MatchOption result (All (StaysOnGrid weights) arc.now) (IsFirstOff weights arc.now) }
+    ensures ones { weights ≡ ones → result ≡ None }
+{
+    match weights.first_off(arc) {
+        Some(at) => {
+            let p = arc[at as usize];
+            let (_x, _y) = (p.x(), p.y());
+            Some(at)
+        }
+        None => None,
+    }
+}
+
+// The least arc of which the weights take a position off the grid, and its first such position. Weights of 1 take none
+// off.
+fn first_off(weights: Weights, map: &ArcMap) -> Option<(u32, u32)>
+    ensures value { MatchOption result (All (All (StaysOnGrid weights)) map.now.arcs) (λ off. IsFirstOffIn weights map.now.arcs off.0 off.1) }
+    ensures ones { weights ≡ ones → result ≡ None }
+{
+    for arc in 0..map.arc_count() {
+        if let Some(at) = first_off_in(weights, map.arc(arc)) {
+            return Some((arc, at));
+        }
+    }
+    None
+}
+
+// The map as an arranged one with no arc held, or with its held arcs where arcs are to be held.
+fn arranged(alloc: Global, hold_arcs: bool, map: ArcMap) -> Result<Partly, Status>
+    ensures same { IfOk result (λ partly. partly.map ≡ map) }
+    ensures beside { IfOk result (λ partly. AreHeldBeside hold_arcs map partly.held) }
+    ensures refused { IfErr result (λ s. (s ≡ Status.NoMemory) ⊎ IsUnarranged hold_arcs map s) }
+{
+    if hold_arcs {
+        return match hold(alloc, map) {
+            Ok(partly) => Ok(partly),
+            Err(_) => Err(Status::NoMemory),
+        };
+    }
+    match check(alloc, map) {
+        Ok(arranged) => Ok(Partly::whole(alloc, arranged)),
+        Err(error) => Err(check_status(error)),
+    }
+}
+
+/// The map of a text, whose positions the weights leave on the grid, arranged or with its held arcs.
+///
+/// A text that is no JSON text, no topology within the profile and its limits, whose positions the weights take off the
+/// grid, or whose map is not arranged where no arcs are to be held, is refused with its status, in this order.
+/// `NoMemory` is want of memory.
+pub fn load(alloc: Global, options: &Options, text: &[u8]) -> Result<Loaded, Status>
+    requires { length text.now ≤ 2 ^ 26 }
+    ensures loaded { IfOk result (λ loaded. IsLoaded options.now text.now (topology_in loaded) loaded.partly.held) }
+    ensures span { IfOk result (λ loaded. LiesIn text.now loaded.arcs_at) }
+    ensures refused { IfErr result (IsRefused options.now text.now) }
+    ensures status { IfErr result IsMapStatus }
+{
+    let topology = match topology_in(alloc, text) {
+        Ok(topology) => topology,
+        Err(status) => return Err(status),
+    };
+    if let Some(off) = first_off(weights_of(options), &topology.map) {
+        return Err(Status::OffWeights(off.0, off.1));
+    }
+    let Topology { map, arcs_at } = topology;
+    match arranged(alloc, options.hold, map) {
+        Ok(partly) => Ok(Loaded { partly, arcs_at }),
+        Err(status) => Err(status),
+    }
+}
