@@ -66,6 +66,19 @@ number_taken size end text read n rest small none is =
     positive zero e = let nonempty = decimal_nonempty n (omega arith) in let l = ap length is ∙ length-append (decimal n) rest in let k : length text ≡ length rest = ap length e in absurd (omega arith)
     positive (suc at) e = omega arith
 
+-- what the digits of a number are read as
+decimal_read : (n : ℕ) (rest : List ℕ) → n < 2 ^ 32 → NoDigit rest → read_digits 0 (decimal n ++ rest) ≡ (n, rest)
+decimal_read n rest small none =
+    let wide : n < 2 ^ 64 = omega arith in
+    let value = digits_value-decimal own n wide in
+    read_law 0 (decimal n) rest (digits_decimal own n wide) (rw value small) none ∙ ap (λ k. (k, rest)) value
+
+-- the digits of one number alone stand at the front, and what follows them is known
+pub number_once : (n m : ℕ) (r s : List ℕ) → n < 2 ^ 32 → m < 2 ^ 32 → NoDigit r → NoDigit s → decimal n ++ r ≡ decimal m ++ s → (n ≡ m) × (r ≡ s)
+number_once n m r s small_n small_m none_r none_s e =
+    let pair : (n, r) ≡ (m, s) = sym (decimal_read n r small_n none_r) ∙ ap (read_digits 0) e ∙ decimal_read m s small_m none_s in
+    (ap (λ (p : ℕ × List ℕ). p.0) pair, ap (λ (p : ℕ × List ℕ). p.1) pair)
+
 -- a word at the front, and what follows it
 pub word_taken : (text word rest : List ℕ) → text ≡ word ++ rest → (take (length word) text ≡ word) × (drop (length word) text ≡ rest) × (length word ≤ length text)
 word_taken text word rest is = (ap (take (length word)) is ∙ take-append_seam word rest, ap (drop (length word)) is ∙ drop-append_seam word rest, let l = ap length is ∙ length-append word rest in omega arith)

@@ -35,7 +35,7 @@ no_digit text [] rest = refl
 no_digit text (x ∷ xs) rest = refl
 
 -- a comma is no bracket
-not_both : (xs ys : List ℕ) → 44 ∷ xs ≡ 93 ∷ ys → ⊥
+pub not_both : (xs ys : List ℕ) → 44 ∷ xs ≡ 93 ∷ ys → ⊥
 not_both xs ys e = true≢false (ap (λ (l : List ℕ). eqb (get_or l 0 0) 44) e)
 
 -- behind a comma stands an item

@@ -2,6 +2,8 @@
 pub mod Certificate
 pub mod Content
 pub mod Digits
+pub mod Endings
 pub mod Flat
 pub mod Going
+pub mod Laws
 pub mod Taken

@@ -1,9 +1,9 @@
 //! Reads the records of the chains: all kept places in one list and all layers in another.
-ghost use Rattle.std.specs.Prelude.{◌≡◌, ◌≤◌, ◌<◌, ◌^◌, ◌-◌, ◌++◌, ◌∷◌, [], ℕ, List, IfOk, OnOk, All, length};
-ghost use Rattle.arc_map.specs.Records.{Record};
-ghost use Rattle.cert_format.specs.Certificate.{IsRecord, record_text};
-ghost use Rattle.cert_format.specs.Flat.{Flat, flat_of, with_record};
-ghost use Rattle.cert_format.specs.Going.{Goes};
+ghost use Rattle.std.specs.Prelude.{◌≡◌, ◌≤◌, ◌<◌, ◌^◌, ◌+◌, ◌-◌, ◌++◌, ◌∷◌, [], ℕ, List, IfOk, OnOk, All, length, map, take, drop};
+ghost use Rattle.arc_map.specs.Records.{Record, Fits, pushed};
+ghost use Rattle.cert_format.specs.Certificate.{IsRecord, further, listed, record_text};
+ghost use Rattle.cert_format.specs.Flat.{Flat, flat_of, with_record, no_records, laid_out, record_of};
+ghost use Rattle.cert_format.specs.Going.{Goes, extended};
 ghost use Rattle.cert_format.specs.Taken.{Gives};
 
 use crate::certificate::CertError;
@@ -33,7 +33,9 @@ pub(crate) struct Chains {
 
 impl Chains {
     /// No records.
-    pub(crate) fn new(alloc: Global) -> Chains {
+    pub(crate) fn new(alloc: Global) -> Chains
+        ensures { flat_of result ≡ no_records }
+    {
         Chains {
             headings: Vec::new(alloc),
             kept: Vec::new(alloc),
@@ -104,18 +106,56 @@ fn further_records<'a>(text: &'a [u8], chains: &mut Chains) -> Result<&'a [u8], 
     Ok(left)
 }
 
-/// Adds the records of the list at the front of a text, and returns what follows the list.
-pub(crate) fn read_records<'a>(text: &'a [u8], chains: &mut Chains) -> Result<&'a [u8], CertError> {
-    match text {
-        [b'[', b']', rest @ ..] => Ok(rest),
-        [b'[', rest @ ..] => behind(further_records(read_record(rest, chains)?, chains)?, b"]"),
-        _ => Err(CertError::NotCertificate),
+// Adds the records of a list that is not empty, and returns what follows the list.
+fn filled_records<'a>(text: &'a [u8], chains: &mut Chains) -> Result<&'a [u8], CertError>
+    ensures taken { (r : Record) (rs : List Record) (rest : List ℕ) → IsRecord r → All IsRecord rs →
+        text.now ≡ 91 ∷ (record_text r ++ (further (map record_text rs) ++ 93 ∷ rest)) →
+        Gives result (λ left. (left.now ≡ rest) × (flat_of chains.new ≡ extended with_record (flat_of chains.old) (r ∷ rs))) }
+{
+    let first = behind(text, b"[")?;
+    let others = read_record(first, chains)?;
+    let bracket = further_records(others, chains)?;
+    match behind(bracket, b"]") {
+        Err(fault) => Err(fault),
+        Ok(rest) => Ok(rest),
     }
+}
+
+/// Adds the records of the list at the front of a text, and returns what follows the list.
+pub(crate) fn read_records<'a>(text: &'a [u8], chains: &mut Chains) -> Result<&'a [u8], CertError>
+    ensures taken { (rs : List Record) (rest : List ℕ) → All IsRecord rs → text.now ≡ listed (map record_text rs) ++ rest →
+        Gives result (λ left. (left.now ≡ rest) × (flat_of chains.new ≡ extended with_record (flat_of chains.old) rs)) }
+{
+    match stripped(text, b"[]") {
+        Some(rest) => Ok(rest),
+        None => filled_records(text, chains),
+    }
+}
+
+// The first so many numbers, or all where there are fewer, and the others.
+fn cut(numbers: &[u32], count: usize) -> (&[u32], &[u32])
+    ensures own { result.0.now ≡ take count numbers.now }
+    ensures others { result.1.now ≡ drop count numbers.now }
+    ensures whole { length result.0.now + length result.1.now ≡ length numbers.now }
+{
+    numbers.split_at(count.min(numbers.len()))
+}
+
+// Adds the record of a heading, of which these are the numbers.
+fn add_record(records: &mut RunRecords, heading: Heading, kept: &[u32], layers: &[u32])
+    requires { Fits records.old (record_of heading kept.now layers.now) }
+    ensures added { records.new ≡ pushed records.old (record_of heading kept.now layers.now) }
+    ensures small { IsRecord (record_of heading kept.now layers.now) }
+{
+    records.push(heading.arc, heading.from, kept, layers);
 }
 
 /// The records, in memory of just their size.
 pub(crate) fn gathered(alloc: Global, chains: &Chains) -> Result<RunRecords, CertError>
     ensures few { IfOk result (λ records. length records.entries ≤ 2 ^ 20) }
+    ensures small { IfOk result (λ records. All IsRecord records.entries) }
+    ensures taken { (rs : List Record) → length rs ≤ 2 ^ 20 → flat_of chains.now ≡ laid_out rs →
+        Gives result (λ records. records.entries ≡ rs) }
 {
     let count = chains.headings.len();
     if count > MOST_CHAINS {
@@ -127,14 +167,11 @@ pub(crate) fn gathered(alloc: Global, chains: &Chains) -> Result<RunRecords, Cer
         return Err(CertError::NoMemory);
     };
     for heading in &chains.headings {
-        if heading.kept > kept.len() || heading.layers > layers.len() {
-            return Err(CertError::NotCertificate);
-        }
-        let (own_kept, kept_left) = kept.split_at(heading.kept);
-        let (own_layers, layers_left) = layers.split_at(heading.layers);
-        records.push(heading.arc, heading.from, own_kept, own_layers);
-        kept = kept_left;
-        layers = layers_left;
+        let (own_kept, other_kept) = cut(kept, heading.kept);
+        let (own_layers, other_layers) = cut(layers, heading.layers);
+        add_record(&mut records, *heading, own_kept, own_layers);
+        kept = other_kept;
+        layers = other_layers;
     }
     Ok(records)
 }

@@ -10,11 +10,13 @@
 
 mod certificate;
 mod chains;
+mod laws;
 mod number;
 mod reader;
 mod writer;
 
 pub use certificate::{CertError, Certificate};
+pub use laws::{one_content, written_and_read};
 pub use reader::read;
 pub use writer::write;
 

@@ -157,8 +157,8 @@ fn filled_list<'a>(text: &'a [u8], numbers: &mut Vec<u32>) -> Result<&'a [u8], C
     }
 }
 
-// Adds the numbers of the list at the front of a text, and returns what follows the list.
-fn number_list<'a>(text: &'a [u8], numbers: &mut Vec<u32>) -> Result<&'a [u8], CertError>
+/// Adds the numbers of the list at the front of a text, and returns what follows the list.
+pub(crate) fn number_list<'a>(text: &'a [u8], numbers: &mut Vec<u32>) -> Result<&'a [u8], CertError>
     ensures shorter { IfOk result (λ rest. length rest.now ≤ length text.now) }
     ensures taken { (ns rest : List ℕ) → All IsSmall ns → text.now ≡ numbers_text ns ++ rest →
         Gives result (λ left. (left.now ≡ rest) × (numbers.new.items ≡ numbers.old.items ++ ns)) }

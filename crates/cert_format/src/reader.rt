@@ -1,14 +1,17 @@
 //! Reads a certificate: its numbers are taken out from left to right, and the text that is written for
 //! them decides whether the bytes are a certificate.
-ghost use Rattle.std.specs.Prelude.{◌≡◌, ◌≢◌, ◌≤◌, ◌^◌, All, IfOk, MatchResult, unsigned_abs, IsTrue, ◌↔◌, IfSome, length};
+ghost use Rattle.std.specs.Prelude.{◌≡◌, ◌≢◌, ◌≤◌, ◌^◌, ◌++◌, ℕ, List, All, IfOk, IfErr, MatchOption, IsTrue, ◌↔◌, IfSome, codes, length};
 ghost use Rattle.std.specs.List.Sorted.{IsStrictlyIncreasing};
-ghost use Rattle.cert_format.specs.Certificate.{certificate_text, KeepsLimits, IsVersion};
-ghost use Rattle.cert_format.specs.Content.{content_of};
 ghost use Rattle.arc_map.specs.ArcList.{IsArcList};
+ghost use Rattle.cert_format.specs.Certificate.{Content, IsCertificate, IsSmall, IsVersion, KeepsLimits, certificate_text};
+ghost use Rattle.cert_format.specs.Content.{content_of, content_read};
+ghost use Rattle.cert_format.specs.Endings.{IsEnding, after_held, after_version, ending_text};
+ghost use Rattle.cert_format.specs.Taken.{Gives};
+ghost use Rattle.cert_format.specs.declared.reader.Ending.{Ending};
 
 use crate::certificate::{CertError, Certificate};
 use crate::chains::{Chains, gathered, read_records};
-use crate::number::{behind, number_behind, numbers_behind};
+use crate::number::{behind, number_behind, number_list, stripped};
 use crate::writer::write;
 use arc_map::{ArcList, NoMemory, RunRecords};
 use grid_exact::{Bound, Weights};
@@ -28,7 +31,7 @@ struct Ending {
 impl Ending {
     // Whether the version is one of the three, and what it leaves out is not there.
     fn fits(self, held: &[u32]) -> bool
-        ensures { IsTrue result → IsVersion self.version self.wx self.wy held.now }
+        ensures { IsTrue result ↔ IsVersion self.version self.wx self.wy held.now }
     {
         match self.version {
             1 => held.is_empty() && self.wx == 1 && self.wy == 1,
@@ -39,17 +42,11 @@ impl Ending {
     }
 }
 
-// The version and the weights behind the records; the held arcs are added to the list.
-fn read_ending(text: &[u8], held: &mut Vec<u32>) -> Result<Ending, CertError> {
-    if let Ok((version, _)) = number_behind(text, b",\"version\":") {
-        return Ok(Ending {
-            version,
-            wx: 1,
-            wy: 1,
-        });
-    }
-    let text = numbers_behind(text, b",\"held\":", held)?;
-    let (version, text) = number_behind(text, b",\"version\":")?;
+// This version with the weights at the front of the text, which stand there from version 3 on.
+fn weighed(version: u32, text: &[u8]) -> Result<Ending, CertError>
+    ensures taken { (e : Ending) (arcs : List ℕ) → IsEnding e arcs → version ≡ e.version → text.now ≡ after_version e →
+        Gives result (λ found. found ≡ e) }
+{
     if version < 3 {
         return Ok(Ending {
             version,
@@ -57,9 +54,37 @@ fn read_ending(text: &[u8], held: &mut Vec<u32>) -> Result<Ending, CertError> {
             wy: 1,
         });
     }
-    let (wx, text) = number_behind(text, b",\"weights\":[")?;
-    let (wy, _) = number_behind(text, b",")?;
-    Ok(Ending { version, wx, wy })
+    match number_behind(text, b",\"weights\":[") {
+        Err(fault) => Err(fault),
+        Ok((wx, behind_across)) => match number_behind(behind_across, b",") {
+            Err(fault) => Err(fault),
+            Ok((wy, _)) => Ok(Ending { version, wx, wy }),
+        },
+    }
+}
+
+// The version and the weights behind the held arcs.
+fn version_behind(text: &[u8]) -> Result<Ending, CertError>
+    ensures taken { (e : Ending) (arcs : List ℕ) → IsEnding e arcs → text.now ≡ after_held e → Gives result (λ found. found ≡ e) }
+{
+    match number_behind(text, b",\"version\":") {
+        Err(fault) => Err(fault),
+        Ok((version, rest)) => weighed(version, rest),
+    }
+}
+
+// The version and the weights behind the records; the held arcs are added to the list.
+fn read_ending(text: &[u8], held: &mut Vec<u32>) -> Result<Ending, CertError>
+    ensures taken { (e : Ending) (arcs : List ℕ) → IsEnding e arcs → text.now ≡ ending_text e arcs →
+        Gives result (λ found. (found ≡ e) × (held.new.items ≡ held.old.items ++ arcs)) }
+{
+    match stripped(text, b",\"held\":") {
+        None => version_behind(text),
+        Some(list) => match number_list(list, held) {
+            Err(fault) => Err(fault),
+            Ok(rest) => version_behind(rest),
+        },
+    }
 }
 
 // Whether each number is greater than the one before it.
@@ -76,8 +101,9 @@ fn is_rising(numbers: &[u32]) -> bool
 
 // The list of held arcs, None where it does not rise or is too long.
 fn held_list(numbers: Vec<u32>) -> Option<ArcList>
-    ensures value { IfSome result (λ held. held ≡ numbers.items) }
+    ensures cases { MatchOption result (¬ (IsArcList numbers.items)) (λ held. held ≡ numbers.items) }
     ensures is_list { IfSome result (λ held. IsArcList held) }
+    ensures small { All IsSmall numbers.items }
 {
     if numbers.len() > MOST_HELD {
         return None;
@@ -96,7 +122,11 @@ fn certificate(
     records: RunRecords,
 ) -> Option<Certificate>
     requires few { length records.entries ≤ 2 ^ 20 }
-    ensures { IfSome result (λ c. KeepsLimits (content_of c)) }
+    ensures cases { MatchOption result (¬ (KeepsLimits (content_read bound ending held.items records.entries)))
+        (λ c. content_of c ≡ content_read bound ending held.items records.entries) }
+    ensures limits { IfSome result (λ c. KeepsLimits (content_of c)) }
+    ensures held { IfSome result (λ c. All IsSmall c.held) }
+    ensures records { IfSome result (λ c. c.records.entries ≡ records.entries) }
 {
     let bound = Bound::new(bound as u64)?;
     let weights = Weights::new(ending.wx as u64, ending.wy as u64)?;
@@ -115,13 +145,15 @@ fn certificate(
 
 // The numbers of a text, taken as those of a certificate.
 fn taken(alloc: Global, bytes: &[u8]) -> Result<Certificate, CertError>
-    ensures { IfOk result (λ c. KeepsLimits (content_of c)) }
+    ensures ok { IfOk result (λ c. IsCertificate (content_of c)) }
+    ensures taken { (c : Content) → IsCertificate c → bytes.now ≡ certificate_text c → Gives result (λ d. content_of d ≡ c) }
 {
-    let (bound, text) = number_behind(bytes, b"{\"bound\":")?;
+    let (bound, behind_bound) = number_behind(bytes, b"{\"bound\":")?;
+    let list = behind(behind_bound, b",\"chains\":")?;
     let mut chains = Chains::new(alloc);
-    let text = read_records(behind(text, b",\"chains\":")?, &mut chains)?;
+    let behind_chains = read_records(list, &mut chains)?;
     let mut held = Vec::new(alloc);
-    let ending = read_ending(text, &mut held)?;
+    let ending = read_ending(behind_chains, &mut held)?;
     let records = gathered(alloc, &chains)?;
     match certificate(bound, ending, held, records) {
         Some(certificate) => Ok(certificate),
@@ -148,14 +180,20 @@ fn is_text_of(alloc: Global, certificate: &Certificate, bytes: &[u8]) -> Result<
 /// The certificate of which these bytes are the text.
 ///
 /// `NotCertificate` says that they are not byte for byte the text of a certificate of one of the three
-/// versions. The bound is at most 2^30, the weights are from 1 to 65536, the held arcs rise, there are at most
-/// 2^20 of them and as many records, and the other numbers are below 2^32. That each such text is accepted is no
-/// clause yet.
+/// versions: the bound is at most 2^30, the weights are from 1 to 65536, the held arcs rise, there are at most
+/// 2^20 of them and as many records, and the other numbers are below 2^32. The text of a certificate is read as
+/// that certificate, where there is memory.
 pub fn read(alloc: Global, bytes: &[u8]) -> Result<Certificate, CertError>
     ensures text { IfOk result (λ c. certificate_text (content_of c) ≡ bytes.now) }
+    ensures ok { IfOk result (λ c. IsCertificate (content_of c)) }
     ensures limits { IfOk result (λ c. KeepsLimits (content_of c)) }
+    ensures refused { IfErr result (λ fault. fault ≡ CertError.NotCertificate → (c : Content) → IsCertificate c → certificate_text c ≢ bytes.now) }
+    ensures again { (c : Content) → IsCertificate c → certificate_text c ≡ bytes.now → Gives result (λ d. content_of d ≡ c) }
 {
-    let certificate = taken(alloc, bytes)?;
+    let certificate = match taken(alloc, bytes) {
+        Ok(certificate) => certificate,
+        Err(fault) => return Err(fault),
+    };
     match is_text_of(alloc, &certificate, bytes) {
         Ok(true) => Ok(certificate),
         Ok(false) => Err(CertError::NotCertificate),

@@ -1,0 +1,10 @@
+-- No more numbers are cut off than there are.
+use Rattle.std.proofs.Common.{◌∙◌, ap, drop, take}
+use Rattle.std.proofs.lemmas.List.{take_min, drop_min}
+use Rattle.cert_format.proofs.chains.cut.Goals as goal
+
+pub returns-clause-own : goal.returns-clause-own
+returns-clause-own c = c.split_at.ensures.front ∙ ap (λ n. take n c.args.numbers.now) c.min.ensures ∙ take_min c.args.count c.args.numbers.now
+
+pub returns-clause-others : goal.returns-clause-others
+returns-clause-others c = c.split_at.ensures.back ∙ ap (λ n. drop n c.args.numbers.now) c.min.ensures ∙ drop_min c.args.count c.args.numbers.now
