@@ -1,3 +1,5 @@
 pub mod Shifts
 pub mod Make
 pub mod Lattice
+pub mod MadeMap
+pub mod Laws

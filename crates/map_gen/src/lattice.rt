@@ -2,6 +2,8 @@
 ghost use Rattle.std.specs.Prelude.{◌≡◌, ◌<◌, ◌≤◌, ◌+◌, ◌*◌, ◌/◌, ◌^◌, ◌++◌, pos, negsuc, IfOk, OnOk, vec_len};
 ghost use Rattle.topo_writer.specs.Texts.{position_text};
 ghost use Rattle.map_gen.specs.Make.{made, across_count, arc_count, left_side, offset, position, wavy_text, town_text, ring_text, cell_text, list_of};
+ghost use Rattle.map_gen.specs.MadeMap.{made_map};
+ghost use Rattle.topo_writer.specs.Reading.{ReadsAs};
 ghost use Rattle.map_gen.specs.Lattice.{IsLattice, IsSmall, IsOffset};
 
 use crate::shifts::shifts;
@@ -20,12 +22,13 @@ struct Lattice {
 
 /// The text of a coverage of so many rows and columns of cells with wavy borders, and of towns close to them,
 /// as a topology (TopoJSON 1.0) without a transform. The same seed gives the same text. It is at most `2^26`
-/// bytes. The only error is want of memory.
+/// bytes, and reads as the map of the coverage. The only error is want of memory.
 pub fn make(alloc: Global, rows: u32, cols: u32, seed: u32) -> Result<Vec<u8>, NoMemory>
     requires rows { (1 ≤ rows) × (rows ≤ 100) }
     requires cols { (1 ≤ cols) × (cols ≤ 100) }
     requires seed { seed ≤ 65536 }
     ensures value { IfOk result (λ text. text.items ≡ made rows cols seed) }
+    ensures reads { IfOk result (λ text. ReadsAs text.items (made_map rows cols seed)) }
     ensures short { IfOk result (λ text. vec_len text ≤ 2 ^ 26) }
 {
     let lattice = new_lattice(alloc, rows, cols, seed)?;

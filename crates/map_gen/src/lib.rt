@@ -2,9 +2,11 @@
 #![tactic(auto)]
 
 mod lattice;
+mod laws;
 mod shifts;
 
 pub use lattice::make;
+pub use laws::{made_maps_are_arranged, made_maps_are_maps, made_text_reads};
 
 #[cfg(test)]
 mod tests {

@@ -1,2 +1,15 @@
 pub mod Lengths
 pub mod Left
+pub mod TextNumbers
+pub mod TreeShapes
+pub mod TextForms
+pub mod TreeArcs
+pub mod ArcForms
+pub mod ReadArcs
+pub mod Alike
+pub mod Follows
+pub mod WalkAlike
+pub mod TopologyAlike
+pub mod Replaced
+pub mod Fitting
+pub mod ReadsBack

@@ -2,10 +2,12 @@
 #![tactic(auto)]
 
 mod arcs;
+mod laws;
 mod splicing;
 mod texts;
 
 pub use arcs::arcs_text;
+pub use laws::spliced_reads_back;
 pub use splicing::splice;
 pub use texts::{write_number, write_position};
 
