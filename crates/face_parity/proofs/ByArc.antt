@@ -1,147 +1,215 @@
--- The edges at one x, arc by arc.
-use Rattle.std.proofs.Common.{◌≡◌, ◌≢◌, ◌∙◌, ℕ, zero, suc, ◌+◌, ◌-◌, ◌<◌, ◌≤◌, ◌==◌, Bool, true, false, List, [], ◌∷◌, All, AllPairs, Contains, length, get_or, refl, sym, ap, subst, arith, inl, inr}
+-- The runs in the cell of a place, arc by arc.
+use Rattle.std.proofs.Common.{◌≡◌, ◌≢◌, ◌∙◌, ℕ, zero, suc, ◌+◌, ◌*◌, ◌/◌, ◌^◌, ◌<◌, ◌≤◌, ◌==◌, Bool, true, false, List, [], ◌∷◌, All, AllPairs, Contains, drop, length, get_or, map, refl, sym, ap, subst, arith, inl, inr, ◌++◌}
 use Rattle.std.specs.Prelude.{◌&&◌}
 use Rattle.std.proofs.Math.ListN.{get_or-eq_default}
-use Rattle.std.proofs.lemmas.Bool.{and_parts, cases_lt, eqb-true, eq-eqb}
-use Rattle.std.proofs.lemmas.List.Elements.{All-cons, All-contains, All-head, All-nil, All-weaker}
-use Rattle.std.proofs.lemmas.List.Kept.{AllPairs-cons}
+use Rattle.std.proofs.lemmas.Bool.{and_left, and_parts, and_right, cases_Bool, cases_eq, cases_lt, eq-eqb, eqb-true, ne_eqb, true≢false}
+use Rattle.std.proofs.lemmas.List.{get_or-map, length-map}
+use Rattle.std.proofs.lemmas.List.Elements.{All-cons, All-contains, All-filter, All-get_or, All-map, All-nil, All-weaker, Contains-get_or, at_from_Contains, filter_passes, All-append, Contains-append_left, Contains-append_right}
+use Rattle.std.proofs.lemmas.List.Kept.{AllPairs-cons, AllPairs-filter}
 use Rattle.grid_exact.specs.Geometry.{Place}
-use Rattle.grid_exact.specs.Crossing.{is_crossed}
-use Rattle.grid_exact.specs.Walks.{count_edges, differ, is_odd}
+use Rattle.grid_exact.specs.Walks.{differ}
 use Rattle.arc_map.specs.Map.{Map}
 use Rattle.arc_map.specs.Arcs.{is_inside_of, is_list_crossed_oddly}
-use Rattle.arc_map.specs.Arranged.{IsMapEdge, arc_at, edge_end, edge_start, nowhere, position_at}
-use Rattle.arc_map.specs.declared.refs.EdgeRef.{EdgeRef}
-use Rattle.sweep_index.specs.Slabs.{AreEdgesAt, IsEdgeAt}
-use Rattle.sweep_index.proofs.Distinct.{pairs_nil}
+use Rattle.arc_map.specs.Arranged.{arc_at}
+use Rattle.sweep_index.proofs.Distinct.{pairs_from_map, pairs_map, pairs_nil, pairs_append}
+use Rattle.sweep_index.proofs.Holding.{filter_holds, map_holds, some_of}
+use Rattle.sweep_index.proofs.Orders.{div_rises}
+use Rattle.face_parity.specs.Bounds.{IsOffsetOf}
+use Rattle.face_parity.specs.Celled.{AreCelled, DoesReach, InRow, IsOfRow, cell_at, in_cell, run_at, spot_of, AreWideTo, is_wide}
+use Rattle.face_parity.specs.Faces.{IsFloored, turns}
 use Rattle.face_parity.specs.Parities.{pass_oddly}
-use Rattle.face_parity.proofs.Besides.{crossed-x}
-use Rattle.face_parity.proofs.Counting.{differ-assoc, differ-false, odd-cons}
+use Rattle.face_parity.specs.Runs.{AreRunsOf, IsRunOf, is_part_crossed, is_run_crossed, run_part}
+use Rattle.face_parity.specs.declared.bounds.Offset.{Offset}
+use Rattle.face_parity.specs.declared.cells.Celled.{Celled}
+use Rattle.face_parity.specs.declared.cells.Limits.{Limits}
+use Rattle.face_parity.specs.declared.floors.Floors.{Floors}
+use Rattle.face_parity.specs.declared.runs.Run.{Run}
+use Rattle.face_parity.proofs.Counting.{differ-false}
+use Rattle.face_parity.proofs.Lowest.{inside-sum}
 use Rattle.face_parity.proofs.Same.{in-later, pass-same}
-use Rattle.face_parity.proofs.Sums.{pass-agree, pass-and, pass-swap}
+use Rattle.face_parity.proofs.Seen.{odd-reaches}
+use Rattle.face_parity.proofs.Sums.{pass-agree, pass-and, pass-at, pass-map, pass-swap, pass-append}
 
--- the edge of this arc at this place
-abbrev pub edge_at : ℕ → ℕ → EdgeRef
-edge_at arc at = record { arc = arc; at = at }
+-- ---- the numbers of runs
 
--- the edges of an arc from a place on, one for each position behind it
-abbrev along : ℕ → ℕ → List Place → List EdgeRef
-along arc at [] = []
-along arc at (p ∷ ps) = edge_at arc at ∷ along arc (suc at) ps
+-- the numbers of the runs from one on
+abbrev numbered : ℕ → List Run → List ℕ
+numbered at [] = []
+numbered at (r ∷ rs) = at ∷ numbered (suc at) rs
 
-record IsAlong (arc low high : ℕ) (e : EdgeRef) : Type 0 where
-  arc_is : e.arc ≡ arc
-  from_low : low ≤ e.at
-  to_high : e.at < high
+record IsFromTo (low high n : ℕ) : Type 0 where
+  from_low : low ≤ n
+  to_high : n < high
 
-along-within : (arc at high : ℕ) (ps : List Place) → high ≡ at + length ps → All (IsAlong arc at high) (along arc at ps)
-along-within arc at high [] is = All-nil (IsAlong arc at high)
-along-within arc at high (p ∷ ps) is =
-    All-cons (IsAlong arc at high) (edge_at arc at) (along arc (suc at) ps)
-    (record { arc_is = refl; from_low = omega arith; to_high = omega (arith, is) })
-    (All-weaker (IsAlong arc (suc at) high) (IsAlong arc at high) (λ e has. record { arc_is = has.arc_is; from_low = omega (arith, has.from_low); to_high = has.to_high }) (along arc (suc at) ps) (along-within arc (suc at) high ps (omega (arith, is))))
+numbered-within : (at high : ℕ) (rs : List Run) → high ≡ at + length rs → All (IsFromTo at high) (numbered at rs)
+numbered-within at high [] is = All-nil (IsFromTo at high)
+numbered-within at high (r ∷ rs) is =
+    All-cons (IsFromTo at high) at (numbered (suc at) rs)
+    (record { from_low = omega arith; to_high = omega (arith, is) })
+    (All-weaker (IsFromTo (suc at) high) (IsFromTo at high) (λ n has. record { from_low = omega (arith, has.from_low); to_high = has.to_high }) (numbered (suc at) rs) (numbered-within (suc at) high rs (omega (arith, is))))
 
-along-has : (arc at n i : ℕ) (ps : List Place) → n ≡ at + i → i < length ps → Contains (along arc at ps) (edge_at arc n)
-along-has arc at n i [] is within = absurd (omega (arith, within))
-along-has arc at n zero (p ∷ ps) is within = let here : at ≡ n = omega (arith, is) in (0, omega arith, ap (edge_at arc) here)
-along-has arc at n (suc i) (p ∷ ps) is within = in-later (edge_at arc at) (edge_at arc n) (along arc (suc at) ps) (along-has arc (suc at) n i ps (omega (arith, is)) (omega (arith, within)))
+numbered-has : (at n i : ℕ) (rs : List Run) → n ≡ at + i → i < length rs → Contains (numbered at rs) n
+numbered-has at n i [] is within = absurd (omega (arith, within))
+numbered-has at n zero (r ∷ rs) is within = let here : at ≡ n = omega (arith, is) in (0, omega arith, here)
+numbered-has at n (suc i) (r ∷ rs) is within = in-later at n (numbered (suc at) rs) (numbered-has (suc at) n i rs (omega (arith, is)) (omega (arith, within)))
 
-along-once : (arc at : ℕ) (ps : List Place) → AllPairs (λ e f. e ≢ f) (along arc at ps)
-along-once arc at [] = pairs_nil (λ e f. e ≢ f)
-along-once arc at (p ∷ ps) = AllPairs-cons (λ e f. e ≢ f) (edge_at arc at) (along arc (suc at) ps)
-    (All-weaker (IsAlong arc (suc at) (suc at + length ps)) (λ f. edge_at arc at ≢ f) (λ e has same. let level : at ≡ e.at = ap (λ (f : EdgeRef). f.at) same in omega (arith, level, has.from_low)) (along arc (suc at) ps) (along-within arc (suc at) (suc at + length ps) ps refl))
-    (along-once arc (suc at) ps)
+numbered-once : (at : ℕ) (rs : List Run) → AllPairs (λ i j. i ≢ j) (numbered at rs)
+numbered-once at [] = pairs_nil (λ i j. i ≢ j)
+numbered-once at (r ∷ rs) = AllPairs-cons (λ i j. i ≢ j) at (numbered (suc at) rs)
+    (All-weaker (IsFromTo (suc at) (suc at + length rs)) (λ n. at ≢ n) (λ n has same. omega (arith, same, has.from_low)) (numbered (suc at) rs) (numbered-within (suc at) (suc at + length rs) rs refl))
+    (numbered-once (suc at) rs)
 
--- whether the edge is crossed from p
-abbrev pub crosses : Map → Place → EdgeRef → Bool
-crosses m p e = is_crossed p (edge_start m e) (edge_end m e)
-
--- whether the polygon is turned at the edge: it is crossed from p, and its arc is named an odd number of times
-abbrev pub turns : Map → Place → ℕ → EdgeRef → Bool
-turns m p polygon e = crosses m p e && pass_oddly (λ arc. arc == e.arc) (get_or m.polygons polygon [])
-
-and-right : (b c : Bool) → c ≡ true → b ≡ (b && c)
-and-right true c is = sym is
-and-right false c is = refl
-
--- the positions from v on are those of the arc from the place on
-odd-along : (m : Map) (p : Place) (arc at : ℕ) (v : Place) (ws : List Place) → ((i : ℕ) → get_or (v ∷ ws) i nowhere ≡ position_at m arc (at + i)) → is_odd (count_edges (is_crossed p) v ws) ≡ pass_oddly (λ e. crosses m p e && (arc == e.arc)) (along arc at ws)
-odd-along m p arc at v [] same = refl
-odd-along m p arc at v (w ∷ ws) same =
+-- runs that pass are as odd as their numbers
+numbered-pass : (test : Run → Bool) (all : List Run) (at : ℕ) (rs : List Run) → ((i : ℕ) → run_at rs i ≡ run_at all (at + i)) → pass_oddly test rs ≡ pass_oddly (λ n. test (run_at all n)) (numbered at rs)
+numbered-pass test all at [] same = refl
+numbered-pass test all at (r ∷ rs) same =
     let none : at + 0 ≡ at = omega arith in
-    let first : v ≡ edge_start m (edge_at arc at) = same 0 ∙ ap (position_at m arc) none in
-    let second : w ≡ edge_end m (edge_at arc at) = same 1 in
-    let here : is_crossed p v w ≡ crosses m p (edge_at arc at) = ap (λ a. is_crossed p a w) first ∙ ap (is_crossed p (edge_start m (edge_at arc at))) second in
-    let next : (i : ℕ) → get_or (w ∷ ws) i nowhere ≡ position_at m arc (suc at + i) = λ i. let step : at + suc i ≡ suc at + i = omega arith in same (suc i) ∙ ap (position_at m arc) step in
-    odd-cons (is_crossed p) v w ws
-    ∙ ap (λ b. differ b (is_odd (count_edges (is_crossed p) w ws))) (here ∙ and-right (crosses m p (edge_at arc at)) (arc == arc) (eq-eqb arc arc refl))
-    ∙ ap (differ (crosses m p (edge_at arc at) && (arc == arc))) (odd-along m p arc (suc at) w ws next)
+    let first : r ≡ run_at all at = same 0 ∙ ap (run_at all) none in
+    ap (λ s. differ (test s) (pass_oddly test rs)) first
+    ∙ ap (differ (test (run_at all at))) (numbered-pass test all (suc at) rs (λ i. let step : at + suc i ≡ suc at + i = omega arith in same (suc i) ∙ ap (run_at all) step))
 
-abbrev behind_first : List Place → List Place
-behind_first [] = []
-behind_first (p ∷ ps) = ps
-
-length-behind_first : (ps : List Place) → length (behind_first ps) ≡ length ps - 1
-length-behind_first [] = refl
-length-behind_first (p ∷ ps) = omega arith
-
-odd-arc : (m : Map) (p : Place) (arc : ℕ) (ps : List Place) → ps ≡ arc_at m arc → is_list_crossed_oddly p ps ≡ pass_oddly (λ e. crosses m p e && (arc == e.arc)) (along arc 0 (behind_first ps))
-odd-arc m p arc [] is = refl
-odd-arc m p arc (v ∷ ws) is = odd-along m p arc 0 v ws (λ i. let none : i ≡ 0 + i = omega arith in ap (λ qs. get_or qs i nowhere) is ∙ ap (position_at m arc) none)
-
-module _ (m : Map) (p : Place) (edges : List EdgeRef) (are : AreEdgesAt m p.x edges) where
-  -- of the edges at the x of p, those of one arc
-  pass-arc : (arc : ℕ) → pass_oddly (λ e. crosses m p e && (arc == e.arc)) edges ≡ is_list_crossed_oddly p (arc_at m arc)
-  pass-arc arc =
-      let ps = arc_at m arc in
-      let long = length-behind_first ps in
-      pass-same (λ e. crosses m p e && (arc == e.arc)) edges (along arc 0 (behind_first ps)) are.once (along-once arc 0 (behind_first ps))
-      (λ e ok held.
-      let mine : arc ≡ e.arc = eqb-true arc e.arc (and_parts (crosses m p e) (arc == e.arc) ok).1 in
-      let has : IsMapEdge m e = (All-contains (IsEdgeAt m p.x) edges e are.only held).edge in
-      let within : e.at + 1 < length ps = subst (λ k. e.at + 1 < length (arc_at m k)) (sym mine) has in
-      subst (λ k. Contains (along arc 0 (behind_first ps)) (edge_at k e.at)) mine (along-has arc 0 e.at e.at (behind_first ps) (omega arith) (omega (arith, within, long))))
-      (λ e ok held.
-      let has = All-contains (IsAlong arc 0 (0 + length (behind_first ps))) (along arc 0 (behind_first ps)) e (along-within arc 0 (0 + length (behind_first ps)) (behind_first ps) refl) held in
-      let within : e.at + 1 < length ps = omega (arith, has.to_high, long) in
-      are.all e (record {
-        edge = subst (λ k. e.at + 1 < length (arc_at m k)) (sym has.arc_is) within;
-        across = crossed-x p (edge_start m e) (edge_end m e) (and_parts (crosses m p e) (arc == e.arc) ok).0;
-      }))
-      ∙ sym (odd-arc m p arc ps refl)
-
-  inside-sum : (refs : List ℕ) → is_inside_of p m.arcs refs ≡ pass_oddly (λ arc. is_list_crossed_oddly p (arc_at m arc)) refs
-  inside-sum [] = refl
-  inside-sum (arc ∷ refs) = ap (differ (is_list_crossed_oddly p (arc_at m arc))) (inside-sum refs)
-
-  -- the crossed ones of these edges, each as often as its arc is named, tell whether p is in the rings
-  pub pass-inside : (refs : List ℕ) → pass_oddly (λ e. crosses m p e && pass_oddly (λ arc. arc == e.arc) refs) edges ≡ is_inside_of p m.arcs refs
-  pass-inside refs =
-      pass-agree (λ e. crosses m p e && pass_oddly (λ arc. arc == e.arc) refs) (λ e. pass_oddly (λ arc. crosses m p e && (arc == e.arc)) refs) edges (λ k d within. sym (pass-and (crosses m p (get_or edges k d)) (λ arc. arc == (get_or edges k d).arc) refs))
-      ∙ pass-swap (λ e arc. crosses m p e && (arc == e.arc)) edges refs
-      ∙ pass-agree (λ arc. pass_oddly (λ e. crosses m p e && (arc == e.arc)) edges) (λ arc. is_list_crossed_oddly p (arc_at m arc)) refs (λ k d within. pass-arc (get_or refs k d))
-      ∙ sym (inside-sum refs)
-
--- ---- one edge after another
-
-pub first-of : {X : Type 0} (P : X → Type 0) (x : X) (xs ys : List X) → ys ≡ x ∷ xs → All P ys → P x
-first-of P x xs ys is all = All-head P x xs (subst (All P) is all)
-
--- the arc of an edge is an arc of the map
-pub arc-in : (m : Map) (e : EdgeRef) → IsMapEdge m e → e.arc < length m.arcs
-arc-in m e edge = elim (cases_lt e.arc (length m.arcs)) [
-  | inl within ↦ within
-  | inr past ↦ let none = ap length (get_or-eq_default m.arcs [] past) in absurd (omega (arith, edge, none))
+-- what is named oddly is named
+pub named-held : (a : ℕ) (refs : List ℕ) → pass_oddly (λ arc. arc == a) refs ≡ true → Contains refs a
+named-held a [] odd = absurd (true≢false (sym odd))
+named-held a (arc ∷ refs) odd = elim (cases_eq arc a) [
+  | inl same ↦ (0, omega arith, same)
+  | inr apart ↦ in-later arc a refs (named-held a refs (sym (ap (λ b. differ b (pass_oddly (λ k. k == a) refs)) (ne_eqb arc a apart)) ∙ odd))
 ]
 
--- a polygon is turned at an edge that is crossed
-pub turned-on : (test : EdgeRef → Bool) (odd new by whole : Bool) (e : EdgeRef) (rest all : List EdgeRef) → all ≡ e ∷ rest → test e ≡ by → new ≡ differ odd by → differ odd (pass_oddly test all) ≡ whole → differ new (pass_oddly test rest) ≡ whole
-turned-on test odd new by whole e rest all is tested turned before =
-    ap (λ b. differ b (pass_oddly test rest)) (turned ∙ ap (differ odd) (sym tested))
-    ∙ differ-assoc odd (test e) (pass_oddly test rest)
-    ∙ ap (λ es. differ odd (pass_oddly test es)) (sym is)
-    ∙ before
+spot-read : (celled : List Celled) (k : ℕ) (d : Celled) (spot : InRow × ℕ) → k < length celled → get_or (map spot_of celled) k (spot_of d) ≡ spot → spot_of (get_or celled k d) ≡ spot
+spot-read celled k d spot inside same = sym (get_or-map spot_of celled k d (spot_of d) inside) ∙ same
 
--- no polygon is turned at an edge that is not crossed
-pub turned-past : (test : EdgeRef → Bool) (odd whole : Bool) (e : EdgeRef) (rest all : List EdgeRef) → all ≡ e ∷ rest → test e ≡ false → differ odd (pass_oddly test all) ≡ whole → differ odd (pass_oddly test rest) ≡ whole
-turned-past test odd whole e rest all is tested before = turned-on test odd odd false whole e rest all is tested (sym (differ-false odd)) before
+same-row : (i j cell : ℕ) → i * 2 ^ 32 ≤ cell → cell < i * 2 ^ 32 + 2 ^ 32 → j * 2 ^ 32 ≤ cell → cell < j * 2 ^ 32 + 2 ^ 32 → i ≡ j
+same-row i j cell a b c d = omega (arith, a, b, c, d)
+
+module _ (m : Map) (floors : Floors) (runs : List Run) (limits : Limits) (width height : ℕ) (wides : List ℕ) (celled : List Celled) (wide : 0 < width) (high : 0 < height) (are : AreRunsOf m floors runs) (broad : AreWideTo runs limits (length runs) wides) (spread : AreCelled runs limits width height celled) (p : Place) (at : Offset) (here : IsOffsetOf p at) where
+  abbrev cell : ℕ
+  cell = cell_at width height at
+
+  abbrev found : List Celled
+  found = in_cell cell celled
+
+  abbrev numbers : List ℕ
+  numbers = map (λ (c : Celled). c.run) found
+
+  known : All (λ c. IsOfRow c × DoesReach runs limits height (spot_of c).0) found
+  known = All-filter (λ c. c.cell == cell) (λ c. IsOfRow c × DoesReach runs limits height (spot_of c).0) celled spread.only
+
+  pub found-within : All (λ c. c.run < length runs) found
+  found-within = All-weaker (λ c. IsOfRow c × DoesReach runs limits height (spot_of c).0) (λ c. c.run < length runs) (λ c has. has.1.run) found known
+
+  numbers-once : AllPairs (λ i j. i ≢ j) numbers
+  numbers-once = pairs_map (λ i j. i ≢ j) (λ (c : Celled). c.run) found (λ i j d lt within same.
+      let before : i < length found = omega (arith, lt, within) in
+      let apart = AllPairs-filter (λ s t. spot_of s ≢ spot_of t) (λ c. c.cell == cell) celled (pairs_from_map (λ s t. s ≢ t) spot_of celled spread.once) i j d lt within in
+      let first : (get_or found i d).cell ≡ cell = eqb-true (get_or found i d).cell cell (filter_passes (λ c. c.cell == cell) celled i d before) in
+      let second : (get_or found j d).cell ≡ cell = eqb-true (get_or found j d).cell cell (filter_passes (λ c. c.cell == cell) celled j d within) in
+      let of-first = (known i d before).0 in
+      let of-second = (known j d within).0 in
+      let row : (get_or found i d).row ≡ (get_or found j d).row = same-row (get_or found i d).row (get_or found j d).row cell
+      (subst (λ n. (get_or found i d).row * 2 ^ 32 ≤ n) first of-first.low) (subst (λ n. n < (get_or found i d).row * 2 ^ 32 + 2 ^ 32) first of-first.high)
+      (subst (λ n. (get_or found j d).row * 2 ^ 32 ≤ n) second of-second.low) (subst (λ n. n < (get_or found j d).row * 2 ^ 32 + 2 ^ 32) second of-second.high) in
+      let key = λ (run : ℕ) (row : ℕ) (cell : ℕ). let s : InRow × ℕ = (record { run = run; row = row }, cell) in s in
+      apart (ap (λ n. key n (get_or found i d).row (get_or found i d).cell) same ∙ ap (λ n. key (get_or found j d).run n (get_or found i d).cell) row ∙ ap (key (get_or found j d).run (get_or found j d).row) (first ∙ sym second)))
+
+  -- a run that reaches the place is in its cell
+  in-found : (n : ℕ) → n < length runs → is_wide limits (run_at runs n) ≡ false → (run_at runs n).floor ≤ at.y → at.y ≤ (run_at runs n).bounds.north → (run_at runs n).bounds.west ≤ at.x → at.x ≤ (run_at runs n).bounds.east → Contains numbers n
+  in-found n within narrow floor north west east =
+      let r = run_at runs n in
+      let key : InRow = record { run = n; row = at.y / height } in
+      let from : r.bounds.west / width ≤ at.x / width = div_rises r.bounds.west at.x width wide west in
+      let to : at.x / width ≤ r.bounds.east / width = div_rises at.x r.bounds.east width wide east in
+      let held = spread.all key cell (record { run = within; narrow = narrow; low = div_rises r.floor at.y height high floor; high = div_rises at.y r.bounds.north height high north }) (omega (arith, from)) (omega (arith, to)) in
+      let place = at_from_Contains (map spot_of celled) (key, cell) held in
+      let long = length-map celled spot_of in
+      let inside : place.0 < length celled = omega (arith, long, place.1) in
+      let d = some_of celled place.0 inside in
+      let s = get_or celled place.0 d in
+      let same : spot_of s ≡ (key, cell) = spot-read celled place.0 d (key, cell) inside (place.2 (spot_of d)) in
+      let run : s.run ≡ n = ap (λ q. q.0.run) same in
+      let its-cell : s.cell ≡ cell = ap (λ q. q.1) same in
+      let held-here = filter_holds (λ c. c.cell == cell) celled s (Contains-get_or celled place.0 d inside) (eq-eqb s.cell cell its-cell) in
+      subst (Contains numbers) run (map_holds (λ (c : Celled). c.run) found s held-here)
+
+  narrow-numbers : All (λ n. is_wide limits (run_at runs n) ≡ false) numbers
+  narrow-numbers = All-map (λ n. is_wide limits (run_at runs n) ≡ false) (λ (c : Celled). c.run) found (All-weaker (λ c. IsOfRow c × DoesReach runs limits height (spot_of c).0) (λ c. is_wide limits (run_at runs c.run) ≡ false) (λ c has. has.1.narrow) found known)
+
+  -- the runs in the cell and the wide ones differ
+  both-once : AllPairs (λ i j. i ≢ j) (numbers ++ wides)
+  both-once = pairs_append (λ i j. i ≢ j) numbers wides numbers-once broad.once
+      (All-weaker (λ n. is_wide limits (run_at runs n) ≡ false) (λ n. All (λ k. n ≢ k) wides)
+      (λ n narrow. All-weaker (λ k. (k < length runs) × (is_wide limits (run_at runs k) ≡ true)) (λ k. n ≢ k) (λ k is same. true≢false (sym is.1 ∙ ap (λ i. is_wide limits (run_at runs i)) (sym same) ∙ narrow)) wides broad.only)
+      numbers narrow-numbers)
+
+  both-within : All (λ k. k < length runs) (numbers ++ wides)
+  both-within = All-append (λ k. k < length runs) numbers wides
+      (All-map (λ k. k < length runs) (λ (c : Celled). c.run) found found-within)
+      (All-weaker (λ k. (k < length runs) × (is_wide limits (run_at runs k) ≡ true)) (λ k. k < length runs) (λ k is. is.0) wides broad.only)
+
+  -- a run that reaches the place is in its cell or wide
+  in-both : (n : ℕ) → n < length runs → (run_at runs n).floor ≤ at.y → at.y ≤ (run_at runs n).bounds.north → (run_at runs n).bounds.west ≤ at.x → at.x ≤ (run_at runs n).bounds.east → Contains (numbers ++ wides) n
+  in-both n within floor north west east = elim (cases_Bool (is_wide limits (run_at runs n))) [
+    | inl is ↦ Contains-append_right numbers wides n (broad.all n within is)
+    | inr narrow ↦ Contains-append_left numbers wides n (in-found n within narrow floor north west east)
+  ]
+
+  -- the runs of the map, each as often as its arc is named
+  over-runs : (refs : List ℕ) → pass_oddly (λ r. is_run_crossed m p r && pass_oddly (λ arc. arc == r.arc) refs) runs ≡ is_inside_of p m.arcs refs
+  over-runs refs =
+      pass-agree (λ r. is_run_crossed m p r && pass_oddly (λ arc. arc == r.arc) refs) (λ r. pass_oddly (λ arc. is_run_crossed m p r && (arc == r.arc)) refs) runs (λ k d within. sym (pass-and (is_run_crossed m p (get_or runs k d)) (λ arc. arc == (get_or runs k d).arc) refs))
+      ∙ pass-swap (λ r arc. is_run_crossed m p r && (arc == r.arc)) runs refs
+      ∙ pass-agree (λ arc. pass_oddly (is_part_crossed m p arc) runs) (λ arc. is_list_crossed_oddly p (arc_at m arc)) refs (λ k d within. are.crossed p (get_or refs k d))
+      ∙ sym (inside-sum p m.arcs refs)
+
+  abbrev turned : List ℕ → ℕ → Bool
+  turned refs n = is_run_crossed m p (run_at runs n) && pass_oddly (λ arc. arc == (run_at runs n).arc) refs
+
+  -- the crossed ones of the runs in the cell and of the wide ones, each as often as its arc is named, tell whether p is in the rings
+  pub pass-inside : (refs : List ℕ) → ((n : ℕ) → n < length runs → Contains refs (run_at runs n).arc → (run_at runs n).floor ≤ at.y) → differ (pass_oddly (λ c. turned refs c.run) found) (pass_oddly (turned refs) wides) ≡ is_inside_of p m.arcs refs
+  pass-inside refs floored =
+      ap (λ b. differ b (pass_oddly (turned refs) wides)) (sym (pass-map (turned refs) (λ (c : Celled). c.run) found))
+      ∙ sym (pass-append (turned refs) numbers wides)
+      ∙ pass-same (turned refs) (numbers ++ wides) (numbered 0 runs) both-once (numbered-once 0 runs)
+      (λ n ok held. numbered-has 0 n n runs (omega arith) (All-contains (λ k. k < length runs) (numbers ++ wides) n both-within held))
+      (λ n ok held.
+      let has = All-contains (IsFromTo 0 (0 + length runs)) (numbered 0 runs) n (numbered-within 0 (0 + length runs) runs refl) held in
+      let within : n < length runs = omega (arith, has.to_high) in
+      let r = run_at runs n in
+      let both = and_parts (is_run_crossed m p r) (pass_oddly (λ arc. arc == r.arc) refs) ok in
+      let run = (All-get_or (IsRunOf m floors) runs n (run_at [] 0) within are.only).run in
+      let reach = odd-reaches p at here (run_part (arc_at m r.arc) r) r.bounds run.round both.0 in
+      in-both n within (floored n within (named-held r.arc refs both.1)) reach.2 reach.0 reach.1)
+      ∙ sym (numbered-pass (λ r. is_run_crossed m p r && pass_oddly (λ arc. arc == r.arc) refs) runs 0 runs (λ i. let none : i ≡ 0 + i = omega arith in ap (run_at runs) none))
+      ∙ over-runs refs
+
+-- ---- one run after another
+
+-- where a run is not crossed, no polygon is turned
+pub not-crossed : (m : Map) (p : Place) (k : ℕ) (r : Run) (odd crossed : Bool) → crossed ≡ is_run_crossed m p r → crossed ≡ false → odd ≡ differ odd (turns m p k r)
+not-crossed m p k r odd crossed is none = sym (ap (differ odd) (and_left (is_run_crossed m p r) (pass_oddly (λ arc. arc == r.arc) (get_or m.polygons k [])) (sym is ∙ none)) ∙ differ-false odd)
+
+-- where the floor of a run is above y, no polygon with a floor that is not above it is turned
+pub not-floored : (m : Map) (p : Place) (y k : ℕ) (r : Run) (odd : Bool) → y < r.floor → IsFloored m y k r → odd ≡ differ odd (turns m p k r)
+not-floored m p y k r odd above floored = elim (cases_Bool (pass_oddly (λ arc. arc == r.arc) (get_or m.polygons k []))) [
+  | inl named ↦ let low = floored (named-held r.arc (get_or m.polygons k []) named) in absurd (omega (arith, low, above))
+  | inr unnamed ↦ sym (ap (differ odd) (and_right (is_run_crossed m p r) (pass_oddly (λ arc. arc == r.arc) (get_or m.polygons k [])) unnamed) ∙ differ-false odd)
+]
+
+-- where a run is crossed, the polygons that name its arc are turned
+pub is-crossed : (m : Map) (p : Place) (k : ℕ) (r : Run) (crossed by : Bool) → crossed ≡ is_run_crossed m p r → crossed ≡ true → by ≡ pass_oddly (λ arc. arc == r.arc) (get_or m.polygons k []) → by ≡ turns m p k r
+is-crossed m p k r crossed by is holds named = named ∙ ap (λ b. b && pass_oddly (λ arc. arc == r.arc) (get_or m.polygons k [])) (sym holds ∙ is)
+
+-- the arc of a run is an arc of the map
+pub arc-in : (m : Map) (arc at : ℕ) → at < length (arc_at m arc) → arc < length m.arcs
+arc-in m arc at inside = elim (cases_lt arc (length m.arcs)) [
+  | inl within ↦ within
+  | inr past ↦ let none = ap length (get_or-eq_default m.arcs [] past) in absurd (omega (arith, inside, none))
+]
+
+-- the parity so far and that of what is left make up the whole
+pub turned-next : {X : Type 0} (number : X → ℕ) (m : Map) (p : Place) (k : ℕ) (runs : List Run) (odd new whole : Bool) (xs : List X) (i : ℕ) (d : X) (r : Run) → i < length xs → r ≡ run_at runs (number (get_or xs i d)) → new ≡ differ odd (turns m p k r) → differ odd (pass_oddly (λ c. turns m p k (run_at runs (number c))) (drop i xs)) ≡ whole → differ new (pass_oddly (λ c. turns m p k (run_at runs (number c))) (drop (i + 1) xs)) ≡ whole
+turned-next {X = X} number m p k runs odd new whole xs i d r within is turned before =
+    let test : X → Bool = λ c. turns m p k (run_at runs (number c)) in
+    ap (λ b. differ b (pass_oddly test (drop (i + 1) xs))) (turned ∙ ap (λ s. differ odd (turns m p k s)) is)
+    ∙ pass-at test odd xs i d within
+    ∙ before

@@ -5,3 +5,9 @@ pub mod Naming
 pub mod Namings
 pub mod Tally
 pub mod Scratch
+pub mod Bounds
+pub mod Floors
+pub mod Runs
+pub mod Celled
+pub mod Cells
+pub mod Faces

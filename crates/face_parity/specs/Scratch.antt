@@ -1,14 +1,15 @@
--- The scratch of a map: its edges by their x, the polygons that name its arcs, and room for the longest line.
+-- The scratch of a map: the runs of its arcs by the cells that they reach, the polygons that name its arcs, and room for
+-- the longest line.
 use Rattle.std.specs.Prelude.{◌≡◌, ◌≤◌, ◌+◌, ◌*◌, ℕ, List, length, vec_capacity}
 use Rattle.arc_map.specs.Map.{Map}
-use Rattle.sweep_index.specs.EdgeSlabs.{AreSlabsOf}
+use Rattle.face_parity.specs.Cells.{AreCellsOf}
 use Rattle.face_parity.specs.Namings.{AreNamingsOf}
 use Rattle.face_parity.specs.Tally.{IsTally}
 use Rattle.face_parity.specs.declared.faces.FaceScratch.{FaceScratch}
 
 -- the scratch was made for this map
 pub record IsScratchOf (m : Map) (scratch : FaceScratch) : Type 0 where
-  pub slabs : AreSlabsOf m scratch.slabs
+  pub cells : AreCellsOf m scratch.cells
   pub namings : AreNamingsOf m scratch.namings
   pub tally : IsTally scratch.tally
   pub polygons : length scratch.tally.odd.items ≡ length m.polygons

@@ -3,10 +3,9 @@ ghost use Rattle.std.specs.Prelude.{◌≡◌, ◌<◌, ◌≤◌, if◌then◌e
 ghost use Rattle.grid_exact.specs.Walks.{count_edges, is_odd, differ};
 ghost use Rattle.grid_exact.specs.Crossing.{is_before, is_passed, is_crossed};
 ghost use Rattle.arc_map.specs.Arcs.{is_inside, is_inside_of, is_list_crossed_oddly};
-ghost use Rattle.arc_map.specs.Arranged.{IsMapEdge, edge_start, edge_end};
 ghost use Rattle.face_parity.specs.Crossings.{crossings};
 
-use arc_map::{ArcMap, EdgeRef};
+use arc_map::ArcMap;
 use grid_exact::{Point, area};
 
 /// How many edges of the list of positions are crossed from p: by a ray that goes straight up from p, tilted so
@@ -65,7 +64,7 @@ fn is_inside_rings(topology: &ArcMap, arcs: &[u32], p: Point) -> bool
 }
 
 // Whether an odd number of edges of the list of positions are crossed from p.
-fn is_crossed_oddly(list: &[Point], p: Point) -> bool
+pub(crate) fn is_crossed_oddly(list: &[Point], p: Point) -> bool
     ensures { result ≡ is_list_crossed_oddly p list.now }
 {
     if list.is_empty() {
@@ -89,23 +88,10 @@ fn is_odd_after(first: Point, rest: &[Point], p: Point) -> bool
 }
 
 // The parity after a number of this parity is added.
-fn toggled(odd: bool, by: bool) -> bool
+pub(crate) fn toggled(odd: bool, by: bool) -> bool
     ensures { result ≡ differ odd by }
 {
     if odd { !by } else { by }
-}
-
-// Whether the edge of the map is crossed from p.
-pub(crate) fn is_map_edge_crossed(topology: &ArcMap, edge: EdgeRef, p: Point) -> bool
-    requires { IsMapEdge topology.now edge }
-    ensures { result ≡ is_crossed p (edge_start topology.now edge) (edge_end topology.now edge) }
-{
-    let positions = topology.arc(edge.arc);
-    is_edge_crossed(
-        p,
-        positions[edge.at as usize],
-        positions[edge.at as usize + 1],
-    )
 }
 
 // Whether the edge from a to b is crossed from p.
