@@ -58,14 +58,14 @@ best_is_certified Pair m path layers best known =
 
 -- ---- a path's numbers
 
-rising_from : (Pair : ℕ → ℕ → Type 0) (m i : ℕ) (rest : List ℕ) → LeadsTo Pair m i rest → IsStrictlyIncreasing (i ∷ rest)
+pub rising_from : (Pair : ℕ → ℕ → Type 0) (m i : ℕ) (rest : List ℕ) → LeadsTo Pair m i rest → IsStrictlyIncreasing (i ∷ rest)
 rising_from Pair m i [] leads k below = absurd (omega arith)
 rising_from Pair m i (next ∷ rest) leads zero below = leads.0
 rising_from Pair m i (next ∷ rest) leads (suc k) below =
     let place : suc k + 1 ≡ suc (k + 1) = omega arith in
     rw place (rising_from Pair m next rest leads.2 k (omega arith))
 
-last_is : (Pair : ℕ → ℕ → Type 0) (m i : ℕ) (rest : List ℕ) → LeadsTo Pair m i rest → get_or (i ∷ rest) (length rest) 0 ≡ m
+pub last_is : (Pair : ℕ → ℕ → Type 0) (m i : ℕ) (rest : List ℕ) → LeadsTo Pair m i rest → get_or (i ∷ rest) (length rest) 0 ≡ m
 last_is Pair m i [] leads = leads
 last_is Pair m i (next ∷ rest) leads = last_is Pair m next rest leads.2
 

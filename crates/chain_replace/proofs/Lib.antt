@@ -7,3 +7,6 @@ pub mod Weighing
 pub mod Fronts
 pub mod Advancing
 pub mod Ends
+pub mod NearPaths
+pub mod ThinnedChains
+pub mod ThinnedArcs

@@ -8,6 +8,7 @@ use Rattle.arc_map.specs.Arranged.{IsMapArranged}
 use Rattle.arc_map.specs.Records.{Record}
 use Rattle.arc_map.specs.Work.{Work}
 use Rattle.chain_replace.specs.Run.{Terms, IsAllowedIn, last_of, IsRecordOf, IsOutcome}
+use Rattle.chain_replace.specs.Thinned.{ThinsArcs}
 
 -- A run has one outcome, with one list of records.
 abbrev pub OutcomeIsOne : Type 0
@@ -29,3 +30,8 @@ pub record KeepsFaces (held : List ℕ) (m after : Map) : Type 0 where
 -- The outcome of a run over a map that is arranged beside the held arcs is arranged beside them, and its faces stay.
 abbrev pub OutcomeKeepsFaces : Type 0
 OutcomeKeepsFaces = (m : Map) (t : Terms) (after : Map) (records : List Record) → IsMapArranged t.held m → IsOutcome m t after records → KeepsFaces t.held m after
+
+-- The outcome of a run thins the arcs of the map: of each arc some places are left, the first and the last and both ends of each of
+-- its chains among them, and each place that is skipped is near the edge that skips it; a held arc is unchanged.
+abbrev pub OutcomeThinsArcs : Type 0
+OutcomeThinsArcs = (m : Map) (t : Terms) (after : Map) (records : List Record) → (is : IsOutcome m t after records) → ThinsArcs t m is.refs after

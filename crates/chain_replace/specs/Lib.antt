@@ -1,4 +1,5 @@
 pub mod Run
+pub mod Thinned
 pub mod Laws
 pub mod Finder
 pub mod FinderMemory

@@ -1,5 +1,5 @@
 //! Laws of runs over the definitions alone, each as the contract of a function that does nothing.
-ghost use Rattle.chain_replace.specs.Laws.{OutcomeIsOne, LayersCertifyPath, OutcomeKeepsFaces};
+ghost use Rattle.chain_replace.specs.Laws.{OutcomeIsOne, LayersCertifyPath, OutcomeKeepsFaces, OutcomeThinsArcs};
 
 /// A run has one outcome: any two maps that a run over one map may lead to are equal, and their records too.
 pub fn outcome_is_one()
@@ -15,4 +15,11 @@ pub fn layers_certify_path()
 /// arc is crossed with the same parity, and each feature point is in the same polygons.
 pub fn outcome_keeps_faces()
     ensures { OutcomeKeepsFaces }
+{}
+
+/// The outcome of a run thins the arcs of the map: of each arc some places are left, its first and its last and both ends of each
+/// of its chains among them, and each place that is skipped is within the bound of the edge that skips it. A held arc is
+/// unchanged, and so is all of the map but its arcs.
+pub fn outcome_thins_arcs()
+    ensures { OutcomeThinsArcs }
 {}

@@ -7,7 +7,7 @@ mod laws;
 mod run;
 mod weigh;
 
-pub use laws::{layers_certify_path, outcome_is_one, outcome_keeps_faces};
+pub use laws::{layers_certify_path, outcome_is_one, outcome_keeps_faces, outcome_thins_arcs};
 pub use run::{Outcome, RunState, run_chains};
 
 #[cfg(test)]
