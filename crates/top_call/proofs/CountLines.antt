@@ -1,5 +1,5 @@
 -- The parts of the lines of counts, one after the other.
-use Rattle.std.proofs.Common.{◌≡◌, ◌∙◌, ℕ, List, ◌++◌, ap, sym, codes, decimal}
+use Rattle.std.proofs.Common.{◌≡◌, ◌∙◌, ℕ, List, ◌++◌, ap, codes, decimal}
 use Rattle.top_call.specs.Answers.{count_lines}
 use Rattle.top_call.proofs.Grouping.{thirteen}
 

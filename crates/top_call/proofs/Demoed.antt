@@ -1,5 +1,5 @@
 -- What `demo` tells is that of the run over the coverage.
-use Rattle.std.proofs.Common.{◌≡◌, ◌∙◌, ◌+◌, ℕ, zero, suc, ℤ, List, [], ◌∷◌, length, ap, refl, subst, inl, inr, arith, Contains}
+use Rattle.std.proofs.Common.{◌≡◌, ◌∙◌, ℕ, zero, suc, ℤ, List, [], length, ap, subst, inl, inr, arith, Contains}
 use Rattle.grid_exact.specs.Weights.{Scales}
 use Rattle.arc_map.specs.Map.{Map}
 use Rattle.arc_map.specs.Chains.{chain_at}

@@ -1,4 +1,5 @@
 pub mod Digits
+pub mod Entries
 pub mod OtherWords
 pub mod Spelling
 pub mod Writing
@@ -10,3 +11,18 @@ pub mod CountLines
 pub mod Demoed
 pub mod PointLines
 pub mod Settled
+pub mod OneTree
+pub mod OneLoading
+pub mod ReadMaps
+pub mod WithinLimits
+pub mod CheckedYes
+pub mod SmallRecords
+pub mod OnlyYes
+pub mod NotRefused
+pub mod Faithful
+pub mod Promised
+pub mod OneAnswer
+pub mod RunsLeft
+pub mod ArcsLeft
+pub mod OutcomeFits
+pub mod ReadBack

@@ -1,9 +1,8 @@
 -- The lines of feature points, from one on.
-use Rattle.std.proofs.Common.{◌≡◌, ◌∙◌, ℕ, zero, suc, ◌+◌, ◌-◌, ◌<◌, ◌≤◌, List, [], ◌∷◌, ◌++◌, length, ap, refl, sym, arith}
+use Rattle.std.proofs.Common.{◌≡◌, ◌∙◌, ℕ, suc, ◌+◌, ◌-◌, ◌<◌, ◌≤◌, List, [], ◌++◌, length, ap, refl, sym, arith}
 use Rattle.std.specs.List.{flat_map, range_with_len}
 use Rattle.arc_map.specs.Map.{Map}
 use Rattle.face_parity.specs.Lines.{line_of}
-use Rattle.top_call.specs.Answers.{faces_text}
 
 -- the lines of the points from number k on
 abbrev pub lines_from : Map → ℕ → List ℕ

@@ -1,15 +1,12 @@
 -- Why a text is refused, from what is known of each step.
 use Rattle.std.proofs.Common.{◌≡◌, ◌∙◌, ℕ, List, Bool, false, Option, None, Some, All, ap, sym, refl, inl, inr, subst}
 use Rattle.std.specs.Prelude.{◌⊎◌}
-use Rattle.std.specs.Str.{IsUtf8}
 use Rattle.json_scan.specs.declared.node.Node.{Node}
 use Rattle.json_scan.specs.declared.walk.ScanError.{ScanError}
 use Rattle.json_scan.specs.declared.walk.ScanError.TheVariants as refusals
-use Rattle.json_scan.specs.Grammar.{Document, IsJson}
 use Rattle.json_scan.specs.Places.{IsRefusedFor}
 use Rattle.json_scan.specs.Tree.{Tree, document_tree}
 use Rattle.topo_reader.specs.declared.fault.ReadFault.{ReadFault}
-use Rattle.topo_reader.specs.declared.fault.ReadFault.TheVariants as faults
 use Rattle.topo_reader.specs.Reads.{topology_of}
 use Rattle.topo_reader.specs.Sequence.{Faults}
 use Rattle.top_call.specs.declared.status.Status.{Status}

@@ -1,10 +1,8 @@
 -- A run ends as its answer says.
-use Rattle.std.proofs.Common.{◌≡◌, ◌∙◌, ℕ, ℤ, Bool, List, [], ◌++◌, Option, None, Some, Result, Ok, Err, IfOk, IfErr, ap, refl, sym, subst, inl, inr}
+use Rattle.std.proofs.Common.{◌≡◌, ◌∙◌, ℕ, ℤ, Bool, List, [], Option, None, Some, Result, Ok, Err, IfOk, IfErr, ap, refl, sym, subst, inl, inr}
 use Rattle.std.proofs.lemmas.List.{append-nil}
 use Rattle.std.specs.Prelude.{◌≢◌, ◌⊎◌}
 use Rattle.std.specs.Global.{Vec}
-use Rattle.cert_checker.specs.declared.verdicts.Reason.{Reason}
-use Rattle.cert_checker.specs.declared.verdicts.Reason.TheVariants as reasons
 use Rattle.cert_checker.specs.declared.verdicts.Verdict.{Verdict}
 use Rattle.cert_checker.specs.declared.verdicts.Verdict.TheVariants as verdicts
 use Rattle.top_call.specs.declared.forms.Options.{Options}
@@ -18,9 +16,9 @@ use Rattle.top_call.specs.Reading.{Read, named, AreRead, AreShort, IsFirstPast, 
 use Rattle.arc_map.specs.Map.{Map}
 use Rattle.topo_reader.specs.Reads.{TopologyRead}
 use Rattle.top_call.specs.Maps.{IsRefused, IsLoaded}
-use Rattle.top_call.specs.Answers.{Answer, refused, done, told, verdict_status, plain, faces_text, IsFaced, IsMapAnswer, Refused, Written, IsCheckAnswer, RefusedFile, Told, IsChecked, IsWorkAnswer, IsFormAnswer, TooLong, Worked, IsAnswerBy, IsAnswer}
+use Rattle.top_call.specs.Answers.{Answer, refused, done, verdict_status, plain, faces_text, IsFaced, IsMapAnswer, Refused, Written, IsCheckAnswer, RefusedFile, Told, IsChecked, IsWorkAnswer, IsFormAnswer, TooLong, Worked, IsAnswerBy, IsAnswer}
 use Rattle.top_call.specs.Verdicts.{verdict_line}
-use Rattle.top_call.specs.Endings.{IsMapStatus, IsWritten, IsSilent, IsWorkStatus, Wrote, WrotePrefix, Replies, Settles, OrForm}
+use Rattle.top_call.specs.Endings.{IsMapStatus, IsWritten, Wrote, Replies, Settles}
 
 -- ---- the three ways to end
 
@@ -76,21 +74,6 @@ settled_as P Q tells before now WriteFault more h = (h.0, more h.0 h.1, h.2, h.3
 settled_as P Q tells before now NoMemory more h = tt
 settled_as P Q tells before now (OffWeights arc at) more h = (h.0, more h.0 h.1, h.2, h.3)
 
--- a verdict is told, or it is `no: form`
-told_or_form : (IsIt : Answer → Type 0) (v : Verdict) → (v ≢ verdicts.No reasons.Form → IsIt (told v)) → OrForm IsIt (told v)
-told_or_form IsIt verdicts.Yes is = inl (is (λ e. cc))
-told_or_form IsIt (verdicts.No reasons.Form) is = inr refl
-told_or_form IsIt (verdicts.No reasons.Version) is = inl (is (λ e. cc))
-told_or_form IsIt (verdicts.No reasons.Bound) is = inl (is (λ e. cc))
-told_or_form IsIt (verdicts.No reasons.Weights) is = inl (is (λ e. cc))
-told_or_form IsIt (verdicts.No (reasons.Held k)) is = inl (is (λ e. cc))
-told_or_form IsIt (verdicts.No (reasons.Chains k)) is = inl (is (λ e. cc))
-told_or_form IsIt (verdicts.No (reasons.Kept k)) is = inl (is (λ e. cc))
-told_or_form IsIt (verdicts.No (reasons.Path k i j)) is = inl (is (λ e. cc))
-told_or_form IsIt (verdicts.No (reasons.Ends k)) is = inl (is (λ e. cc))
-told_or_form IsIt (verdicts.No (reasons.Layers k i j)) is = inl (is (λ e. cc))
-told_or_form IsIt (verdicts.No (reasons.Text at)) is = inl (is (λ e. cc))
-
 -- ---- the forms
 
 is_written : (v : Verdict) → IsWritten (verdict_status v)
@@ -112,14 +95,12 @@ map_written options text W tells before now bytes result is replies = settled_wi
 pub map_refused : (options : Options) (text : List ℕ) (W : List ℕ → Type 0) (tells : Bool) (before now : List ℕ) (s : Status) → now ≡ before → IsMapStatus s → IsRefused options text s → Settles (IsMapAnswer options text W) tells before now s
 map_refused options text W tells before now s same kind why = settled_refused (IsMapAnswer options text W) tells before now s same kind (refused_map options text W s why)
 
-pub check_told : (options : Options) (bound : ℤ) (read : Read) (tells : Bool) (before now : List ℕ) (v : Verdict) (result : Status) → (v ≢ verdicts.No reasons.Form → IsChecked options bound read v) → Replies tells before now (verdict_line v) (verdict_status v) result → Settles (OrForm (IsCheckAnswer options bound read)) tells before now result
+pub check_told : (options : Options) (bound : ℤ) (read : Read) (tells : Bool) (before now : List ℕ) (v : Verdict) (result : Status) → IsChecked options bound read v → Replies tells before now (verdict_line v) (verdict_status v) result → Settles (IsCheckAnswer options bound read) tells before now result
 check_told options bound read tells before now v result checked replies =
-    settled_with (OrForm (IsCheckAnswer options bound read)) tells before now (verdict_status v) (verdict_line v) result
-    (told_or_form (IsCheckAnswer options bound read) v (λ not. Told v (checked not) refl)) (is_written v) replies
+    settled_with (IsCheckAnswer options bound read) tells before now (verdict_status v) (verdict_line v) result (Told v checked refl) (is_written v) replies
 
-pub check_refused : (options : Options) (bound : ℤ) (read : Read) (tells : Bool) (before now : List ℕ) (s : Status) → now ≡ before → IsMapStatus s → IsRefused options read.file s → Settles (OrForm (IsCheckAnswer options bound read)) tells before now s
-check_refused options bound read tells before now s same kind why =
-    settled_refused (OrForm (IsCheckAnswer options bound read)) tells before now s same kind (λ not. inl (refused_check options bound read s why not))
+pub check_refused : (options : Options) (bound : ℤ) (read : Read) (tells : Bool) (before now : List ℕ) (s : Status) → now ≡ before → IsMapStatus s → IsRefused options read.file s → Settles (IsCheckAnswer options bound read) tells before now s
+check_refused options bound read tells before now s same kind why = settled_refused (IsCheckAnswer options bound read) tells before now s same kind (refused_check options bound read s why)
 
 -- the lines of the map that was loaded, or want of memory
 pub faces_settled : (options : Options) (text : List ℕ) (t : TopologyRead) (held : List ℕ) (m : Map) (tells : Bool) (before now : List ℕ) (result : Status) → options ≡ plain → IsLoaded options text t held → m ≡ t.map → (result ≡ NoMemory) ⊎ Replies tells before now (faces_text m) Done result → Settles (IsMapAnswer plain text (IsFaced text)) tells before now result
@@ -135,56 +116,45 @@ faces_settled options text t held m tells before now result is_plain loaded is_m
 
 -- ---- what was made, and then written
 
--- the same of the answers of a form as of those that are known
-known : (IsIt : Answer → Type 0) (tells : Bool) (before now : List ℕ) (s : Status) → Settles IsIt tells before now s → Settles (OrForm IsIt) tells before now s
-known IsIt tells before now s h = settled_as IsIt (OrForm IsIt) tells before now s (λ a is. inl is) h
-
-pub map_settles : {S : Type 0} (written : S → List ℕ) (old new : S) (options : Options) (W : List ℕ → List ℕ → Type 0) (text file : List ℕ) (tells : Bool) (made : Result (Vec ℕ) Status) (result : Status) → text ≡ file → IfOk made (λ b. W text b.items) → IfErr made (IsRefused options text) → IfErr made IsMapStatus → IfOk made (λ b. Replies tells (written old) (written new) b.items Done result) → IfErr made (λ s. (result ≡ s) × (new ≡ old)) → Settles (OrForm (IsMapAnswer options file (W file))) tells (written old) (written new) result
+pub map_settles : {S : Type 0} (written : S → List ℕ) (old new : S) (options : Options) (W : List ℕ → List ℕ → Type 0) (text file : List ℕ) (tells : Bool) (made : Result (Vec ℕ) Status) (result : Status) → text ≡ file → IfOk made (λ b. W text b.items) → IfErr made (IsRefused options text) → IfErr made IsMapStatus → IfOk made (λ b. Replies tells (written old) (written new) b.items Done result) → IfErr made (λ s. (result ≡ s) × (new ≡ old)) → Settles (IsMapAnswer options file (W file)) tells (written old) (written new) result
 map_settles written old new options W text file tells (Ok b) result same made refused status replies ended =
     let of_file = subst (λ (xs : List ℕ). W xs b.items) same made in
-    known (IsMapAnswer options file (W file)) tells (written old) (written new) result (map_written options file (W file) tells (written old) (written new) b.items result of_file replies)
+    map_written options file (W file) tells (written old) (written new) b.items result of_file replies
 map_settles written old new options W text file tells (Err s) result same made refused status replies ended =
     let of_file = subst (λ (xs : List ℕ). IsRefused options xs s) same refused in
     let answer = map_refused options file (W file) tells (written old) (written new) s (ap written ended.1) status of_file in
-    subst (λ (r : Status). Settles (OrForm (IsMapAnswer options file (W file))) tells (written old) (written new) r) (sym ended.0)
-    (known (IsMapAnswer options file (W file)) tells (written old) (written new) s answer)
+    subst (λ (r : Status). Settles (IsMapAnswer options file (W file)) tells (written old) (written new) r) (sym ended.0) answer
 
-pub check_settles : {S : Type 0} (written : S → List ℕ) (old new : S) (options : Options) (bound : ℤ) (read : Read) (tells : Bool) (found : Result Verdict Status) (result : Status) → IfOk found (λ v. v ≢ verdicts.No reasons.Form → IsChecked options bound read v) → IfErr found (IsRefused options read.file) → IfErr found IsMapStatus → IfOk found (λ v. (result ≡ NoMemory) ⊎ Replies tells (written old) (written new) (verdict_line v) (verdict_status v) result) → IfErr found (λ s. (result ≡ s) × (new ≡ old)) → Settles (OrForm (IsCheckAnswer options bound read)) tells (written old) (written new) result
+pub check_settles : {S : Type 0} (written : S → List ℕ) (old new : S) (options : Options) (bound : ℤ) (read : Read) (tells : Bool) (found : Result Verdict Status) (result : Status) → IfOk found (IsChecked options bound read) → IfErr found (IsRefused options read.file) → IfErr found IsMapStatus → IfOk found (λ v. (result ≡ NoMemory) ⊎ Replies tells (written old) (written new) (verdict_line v) (verdict_status v) result) → IfErr found (λ s. (result ≡ s) × (new ≡ old)) → Settles (IsCheckAnswer options bound read) tells (written old) (written new) result
 check_settles written old new options bound read tells (Ok v) result checked refused status (inl none) ended =
-    subst (λ (r : Status). Settles (OrForm (IsCheckAnswer options bound read)) tells (written old) (written new) r) (sym none) tt
+    subst (λ (r : Status). Settles (IsCheckAnswer options bound read) tells (written old) (written new) r) (sym none) tt
 check_settles written old new options bound read tells (Ok v) result checked refused status (inr replies) ended =
     check_told options bound read tells (written old) (written new) v result checked replies
 check_settles written old new options bound read tells (Err s) result checked refused status replies ended =
-    subst (λ (r : Status). Settles (OrForm (IsCheckAnswer options bound read)) tells (written old) (written new) r) (sym ended.0)
+    subst (λ (r : Status). Settles (IsCheckAnswer options bound read) tells (written old) (written new) r) (sym ended.0)
     (check_refused options bound read tells (written old) (written new) s (ap written ended.1) status refused)
 
-pub faces_settles : (text file : List ℕ) (tells : Bool) (before now : List ℕ) (result : Status) → text ≡ file → Settles (IsMapAnswer plain text (IsFaced text)) tells before now result → Settles (OrForm (IsMapAnswer plain file (IsFaced file))) tells before now result
-faces_settles text file tells before now result same h =
-    known (IsMapAnswer plain file (IsFaced file)) tells before now result (subst (λ (xs : List ℕ). Settles (IsMapAnswer plain xs (IsFaced xs)) tells before now result) same h)
+pub faces_settles : (text file : List ℕ) (tells : Bool) (before now : List ℕ) (result : Status) → text ≡ file → Settles (IsMapAnswer plain text (IsFaced text)) tells before now result → Settles (IsMapAnswer plain file (IsFaced file)) tells before now result
+faces_settles text file tells before now result same h = subst (λ (xs : List ℕ). Settles (IsMapAnswer plain xs (IsFaced xs)) tells before now result) same h
 
 -- bytes that are made of no text
-pub made_settles : {S : Type 0} (written : S → List ℕ) (old new : S) (bytes : List ℕ) (tells : Bool) (made : Result (Vec ℕ) Status) (result : Status) → IfOk made (λ b. b.items ≡ bytes) → IfErr made (λ s. s ≡ NoMemory) → IfOk made (λ b. Replies tells (written old) (written new) b.items Done result) → IfErr made (λ s. (result ≡ s) × (new ≡ old)) → Settles (OrForm (λ a. a ≡ done bytes)) tells (written old) (written new) result
-made_settles written old new bytes tells (Ok b) result is refused replies ended =
-    known (λ a. a ≡ done bytes) tells (written old) (written new) result
-    (settled_with (λ a. a ≡ done bytes) tells (written old) (written new) Done b.items result (ap done is) tt replies)
-made_settles written old new bytes tells (Err s) result is refused replies ended =
-    subst (λ (r : Status). Settles (OrForm (λ a. a ≡ done bytes)) tells (written old) (written new) r) (sym (ended.0 ∙ refused)) tt
+pub made_settles : {S : Type 0} (written : S → List ℕ) (old new : S) (W : List ℕ → Type 0) (IsIt : Answer → Type 0) (tells : Bool) (made : Result (Vec ℕ) Status) (result : Status) → ((bytes : List ℕ) → W bytes → IsIt (done bytes)) → IfOk made (λ b. W b.items) → IfErr made (λ s. s ≡ NoMemory) → IfOk made (λ b. Replies tells (written old) (written new) b.items Done result) → IfErr made (λ s. (result ≡ s) × (new ≡ old)) → Settles IsIt tells (written old) (written new) result
+made_settles written old new W IsIt tells (Ok b) result says is refused replies ended =
+    settled_with IsIt tells (written old) (written new) Done b.items result (says b.items is) tt replies
+made_settles written old new W IsIt tells (Err s) result says is refused replies ended =
+    subst (λ (r : Status). Settles IsIt tells (written old) (written new) r) (sym (ended.0 ∙ refused)) tt
 
 -- ---- the whole
 
 -- the answer of the work is that of the form
-pub form_settled : (f : Form) (texts : Texts) (read : Read) (tells : Bool) (before now : List ℕ) (s : Status) → AreRead texts (named f) read → AreShort read → Settles (OrForm (IsWorkAnswer f read)) tells before now s → Settles (OrForm (IsFormAnswer f texts)) tells before now s
-form_settled f texts read tells before now s are short h = settled_as (OrForm (IsWorkAnswer f read)) (OrForm (IsFormAnswer f texts)) tells before now s answers h
-  where
-    answers : (a : Answer) → OrForm (IsWorkAnswer f read) a → OrForm (IsFormAnswer f texts) a
-    answers a (inl is) = inl (Worked read are short is)
-    answers a (inr form) = inr form
+pub form_settled : (f : Form) (texts : Texts) (read : Read) (tells : Bool) (before now : List ℕ) (s : Status) → AreRead texts (named f) read → AreShort read → Settles (IsWorkAnswer f read) tells before now s → Settles (IsFormAnswer f texts) tells before now s
+form_settled f texts read tells before now s are short h = settled_as (IsWorkAnswer f read) (IsFormAnswer f texts) tells before now s (λ a is. Worked read are short is) h
 
 -- a text that is too long is the answer; where a call failed or memory was wanting nothing is said
-pub reading_settled : (f : Form) (texts : Texts) (tells : Bool) (before now : List ℕ) (s : Status) → now ≡ before → IsReadingStatus s → ((r : Role) → s ≡ TooLarge (Text r) → IsFirstPast texts (named f) r) → Settles (OrForm (IsFormAnswer f texts)) tells before now s
+pub reading_settled : (f : Form) (texts : Texts) (tells : Bool) (before now : List ℕ) (s : Status) → now ≡ before → IsReadingStatus s → ((r : Role) → s ≡ TooLarge (Text r) → IsFirstPast texts (named f) r) → Settles (IsFormAnswer f texts) tells before now s
 reading_settled f texts tells before now ReadFault same kind past = tt
 reading_settled f texts tells before now NoMemory same kind past = tt
-reading_settled f texts tells before now (TooLarge (Text r)) same kind past = (refused (TooLarge (Text r)), inl (TooLong r (past r refl) refl), refl, unchanged tells before now same)
+reading_settled f texts tells before now (TooLarge (Text r)) same kind past = (refused (TooLarge (Text r)), TooLong r (past r refl) refl, refl, unchanged tells before now same)
 reading_settled f texts tells before now (TooLarge (Depth at)) same kind past = absurd kind
 reading_settled f texts tells before now (TooLarge (Many what at)) same kind past = absurd kind
 reading_settled f texts tells before now Done same kind past = absurd kind
@@ -199,9 +169,9 @@ reading_settled f texts tells before now WriteFault same kind past = absurd kind
 reading_settled f texts tells before now (OffWeights arc at) same kind past = absurd kind
 
 -- the answer of the form of the words is that of the words
-pub words_settled : (words : List (List ℕ)) (texts : Texts) (f : Form) (tells : Bool) (before now : List ℕ) (s : Status) → Some f ≡ form_of words → Settles (OrForm (IsFormAnswer f texts)) tells before now s → Settles (OrForm (IsAnswer words texts)) tells before now s
-words_settled words texts f tells before now s is h = subst (λ (o : Option Form). Settles (OrForm (IsAnswerBy o texts)) tells before now s) is h
+pub words_settled : (words : List (List ℕ)) (texts : Texts) (f : Form) (tells : Bool) (before now : List ℕ) (s : Status) → Some f ≡ form_of words → Settles (IsFormAnswer f texts) tells before now s → Settles (IsAnswer words texts) tells before now s
+words_settled words texts f tells before now s is h = subst (λ (o : Option Form). Settles (IsAnswerBy o texts) tells before now s) is h
 
-pub usage_settled : (words : List (List ℕ)) (texts : Texts) (tells : Bool) (before now : List ℕ) → now ≡ before → None ≡ form_of words → Settles (OrForm (IsAnswer words texts)) tells before now Usage
+pub usage_settled : (words : List (List ℕ)) (texts : Texts) (tells : Bool) (before now : List ℕ) → now ≡ before → None ≡ form_of words → Settles (IsAnswer words texts) tells before now Usage
 usage_settled words texts tells before now same is =
-    (refused Usage, inl (subst (λ (o : Option Form). IsAnswerBy o texts (refused Usage)) is refl), refl, unchanged tells before now same)
+    (refused Usage, subst (λ (o : Option Form). IsAnswerBy o texts (refused Usage)) is refl, refl, unchanged tells before now same)

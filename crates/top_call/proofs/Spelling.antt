@@ -1,5 +1,5 @@
 -- A word spells a number exactly where it is that number's decimal, and words are a form exactly where they spell it.
-use Rattle.std.proofs.Common.{◌≡◌, ℕ, ◌+◌, ◌*◌, ◌-◌, ◌^◌, ◌<◌, ◌≤◌, ◌≤ℤ◌, ◌==◌, ◌&&◌, ◌||◌, ℤ, pos, negsuc, unsigned_abs, nat_lt, List, [], ◌∷◌, ◌++◌, Option, None, Some, option_map, option_and_then, Bool, true, false, cond, length, get_or, decimal, IsTrue, refl, sym, ap, subst, ◌∙◌, arith, inl, inr, le-leb, leb-true}
+use Rattle.std.proofs.Common.{◌≡◌, ℕ, ◌+◌, ◌*◌, ◌-◌, ◌^◌, ◌<◌, ◌≤◌, ◌==◌, ◌&&◌, ◌||◌, ℤ, pos, negsuc, nat_lt, List, [], ◌∷◌, ◌++◌, Option, None, Some, option_map, Bool, true, false, cond, length, get_or, decimal, refl, sym, ap, subst, ◌∙◌, arith, inl, inr, le-leb, leb-true}
 use Rattle.std.proofs.lemmas.Bool.{cases_lt, and_parts}
 use Rattle.std.proofs.lemmas.Bool.Decides.{nat_tests}
 use Rattle.std.proofs.lemmas.Int.{ints}
@@ -18,7 +18,7 @@ use Rattle.top_call.specs.declared.forms.Options.{Options}
 use Rattle.top_call.specs.declared.words.Task.{Task}
 use Rattle.top_call.specs.declared.words.Task.TheVariants as tasks
 use Rattle.top_call.specs.Words.{Form, Simplify, Layers, Check, Faces, Make, Demo, read_digits, between, number_between, bound_of, weights_of, is_name, are_names, named_form, bounded_form, weighed_form, held_form, task_form, faces_form, make_form, demo_form, command_form, form_of}
-use Rattle.top_call.specs.Requests.{digits, hold_words, weights_words, options_words, spelling, IsBound, AreWeights, IsMakeable, IsWithinLimits, Spells}
+use Rattle.top_call.specs.Requests.{digits, hold_words, options_words, spelling, IsBound, AreWeights, IsMakeable, IsWithinLimits, Spells}
 
 kept : {A : Type 0} (b : Bool) (o : Option A) (x : A) → cond b o None ≡ Some x → (b ≡ true) × (o ≡ Some x)
 kept true o x e = (refl, e)

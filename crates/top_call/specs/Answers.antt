@@ -1,7 +1,6 @@
 -- The answer to the words of a command line over the texts that are held, in the order in which it is found: words, texts, map, work.
-use Rattle.std.specs.Prelude.{◌≡◌, ◌≢◌, ◌⊎◌, ◌+◌, ℕ, ℤ, pos, Bool, true, false, List, [], ◌∷◌, ◌++◌, length, sum_by, Option, None, Some, codes, decimal}
+use Rattle.std.specs.Prelude.{◌≡◌, ◌≢◌, ℕ, ℤ, Bool, true, false, List, [], ◌++◌, length, sum_by, Option, None, Some, codes, decimal}
 use Rattle.std.specs.List.{flat_map, range_with_len}
-use Rattle.grid_exact.specs.Geometry.{Place}
 use Rattle.grid_exact.specs.Weights.{Scales}
 use Rattle.outside_io.specs.Texts.{Texts}
 use Rattle.arc_map.specs.Map.{Map}
@@ -15,7 +14,7 @@ use Rattle.topo_writer.specs.Splice.{spliced}
 use Rattle.topo_writer.specs.ArcsText.{arcs_text_of}
 use Rattle.map_gen.specs.Make.{made}
 use Rattle.face_parity.specs.Lines.{line_of}
-use Rattle.cert_format.specs.Certificate.{Content, IsCertificate, KeepsLimits, certificate_text, content}
+use Rattle.cert_format.specs.Certificate.{Content, IsCertificate, certificate_text, content}
 use Rattle.chain_replace.specs.Run.{Terms, IsOutcome}
 use Rattle.cert_checker.specs.Difference.{IsFirstDifference}
 use Rattle.cert_checker.specs.Judged.{demand, IsJudged}
@@ -29,7 +28,7 @@ use Rattle.top_call.specs.declared.status.Role.{Role}
 use Rattle.top_call.specs.declared.status.Status.{Status}
 use Rattle.top_call.specs.declared.status.Status.TheVariants.{Done, No, Usage, TooLarge, ReadFault}
 use Rattle.top_call.specs.Words.{Form, Simplify, Layers, Check, Faces, Make, Demo, form_of}
-use Rattle.top_call.specs.Reading.{Read, Named, named, AreRead, AreShort, IsFirstPast, IsFirstUnheld}
+use Rattle.top_call.specs.Reading.{Read, named, AreRead, AreShort, IsFirstPast, IsFirstUnheld}
 use Rattle.top_call.specs.Maps.{IsLoaded, IsRefusal, scales_of}
 use Rattle.top_call.specs.Verdicts.{verdict_line}
 
@@ -127,9 +126,9 @@ pub record IsDemoed (rows cols seed : ℕ) (bound : ℤ) (bytes : List ℕ) : Ty
 
 -- ---- what `check` finds
 
--- the bytes are the text of what this says
+-- the bytes are the text of this certificate
 pub record IsTextOf (bytes : List ℕ) (c : Content) : Type 0 where
-  pub limits : KeepsLimits c
+  pub certificate : IsCertificate c
   pub text : certificate_text c ≡ bytes
 
 -- a certificate for the map of a text is judged, with this verdict, and the chains are these at the end
@@ -170,6 +169,10 @@ pub data IsMapAnswer (options : Options) (text : List ℕ) (IsWritten : List ℕ
   Refused : (s : Status) → IsRefusal options text s → a ≡ refused s → IsMapAnswer options text IsWritten a
   Written : (bytes : List ℕ) → IsWritten bytes → a ≡ done bytes → IsMapAnswer options text IsWritten a
 
+-- these bytes are made and written
+abbrev pub IsMadeAnswer : (List ℕ → Type 0) → Answer → Type 0
+IsMadeAnswer IsWritten a = (bytes : List ℕ) × IsWritten bytes × (a ≡ done bytes)
+
 -- the text of FILE is refused, or the verdict is told
 pub data IsCheckAnswer (options : Options) (bound : ℤ) (read : Read) (a : Answer) : Type 0 where
   RefusedFile : (s : Status) → IsRefusal options read.file s → a ≡ refused s → IsCheckAnswer options bound read a
@@ -182,7 +185,7 @@ IsWorkAnswer (Layers options bound file) read a = IsMapAnswer options read.file 
 IsWorkAnswer (Check options bound file out cert) read a = IsCheckAnswer options bound read a
 IsWorkAnswer (Faces file) read a = IsMapAnswer plain read.file (IsFaced read.file) a
 IsWorkAnswer (Make rows cols seed) read a = a ≡ done (made rows cols seed)
-IsWorkAnswer (Demo rows cols seed bound) read a = IsMapAnswer plain (made rows cols seed) (IsDemoed rows cols seed bound) a
+IsWorkAnswer (Demo rows cols seed bound) read a = IsMadeAnswer (IsDemoed rows cols seed bound) a
 
 -- ---- the whole
 

@@ -2,15 +2,13 @@
 use Rattle.std.specs.Prelude.{◌≡◌, ◌≢◌, ◌⊎◌, ◌<◌, ℕ, Bool, List, [], ◌++◌, Option, None, Some, IsTrue}
 use Rattle.outside_io.specs.Causes.{Rose}
 use Rattle.outside_io.specs.Texts.{Texts, AppendsPrefix}
-use Rattle.cert_checker.specs.declared.verdicts.Reason.TheVariants.{Form as NoForm}
-use Rattle.cert_checker.specs.declared.verdicts.Verdict.TheVariants as verdicts
 use Rattle.top_call.specs.declared.status.Role.{Role}
 use Rattle.top_call.specs.declared.status.Limit.TheVariants.{Text, Depth, Many}
 use Rattle.top_call.specs.declared.status.Status.{Status}
-use Rattle.top_call.specs.declared.status.Status.TheVariants.{Done, No, Usage, NotUtf8, NotJson, NotTopology, OffProfile, TooLarge, NotArranged, ReadFault, WriteFault, NoMemory, OffWeights}
+use Rattle.top_call.specs.declared.status.Status.TheVariants.{Done, No, NotUtf8, NotJson, NotTopology, OffProfile, TooLarge, NotArranged, ReadFault, WriteFault, NoMemory, OffWeights}
 use Rattle.top_call.specs.Words.{Form}
 use Rattle.top_call.specs.Reading.{Named, named, limit_of, AreHeld, IsFirstPast}
-use Rattle.top_call.specs.Answers.{Answer, told}
+use Rattle.top_call.specs.Answers.{Answer}
 
 -- ---- statuses
 
@@ -91,10 +89,6 @@ Settles IsIt tells before now NoMemory = Unit {0}
 Settles IsIt tells before now ReadFault = Unit {0}
 Settles IsIt tells before now WriteFault = (a : Answer) × IsIt a × IsWritten a.status × WrotePrefix tells before now a.bytes
 Settles IsIt tells before now status = (a : Answer) × IsIt a × (status ≡ a.status) × Wrote tells before now a.bytes
-
--- such an answer, or `no: form`: that a text is no certificate is not known to be the answer
-abbrev pub OrForm : (Answer → Type 0) → Answer → Type 0
-OrForm IsIt a = IsIt a ⊎ (a ≡ told (verdicts.No NoForm))
 
 -- The message stands behind what was written before, or a prefix of it where a write failed.
 abbrev pub Notes : ℕ → ℕ → List ℕ → List ℕ → List ℕ → Type 0

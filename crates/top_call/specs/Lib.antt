@@ -8,3 +8,5 @@ pub mod Reading
 pub mod Maps
 pub mod Answers
 pub mod Endings
+pub mod Laws
+pub mod Headline

@@ -1,10 +1,10 @@
 -- The map of a text, or why it is refused.
-use Rattle.std.specs.Prelude.{◌≡◌, ◌≤◌, ◌<◌, ℕ, pos, Bool, true, false, List, [], length, get_or, slice_get, Option, Some, None, Result, Ok, Err, All, ◌⊎◌}
+use Rattle.std.specs.Prelude.{◌≡◌, ◌<◌, ℕ, pos, Bool, true, false, List, [], length, get_or, Option, Some, None, Ok, Err, All, ◌⊎◌}
 use Rattle.std.specs.Str.{IsUtf8}
 use Rattle.grid_exact.specs.Geometry.{Place}
 use Rattle.grid_exact.specs.Weights.{Scales, StaysOnGrid, IsFirstOff}
 use Rattle.arc_map.specs.Map.{Map}
-use Rattle.arc_map.specs.Arranged.{arc_at, IsArranged, IsLeastClash, IsLeastPoint, IsHeldList}
+use Rattle.arc_map.specs.Arranged.{IsArranged, IsLeastClash, IsLeastPoint, IsHeldList}
 use Rattle.arc_map.specs.declared.refs.EdgeRef.{EdgeRef}
 use Rattle.json_scan.specs.declared.node.Node.{Node}
 use Rattle.json_scan.specs.declared.walk.ScanError.{ScanError}

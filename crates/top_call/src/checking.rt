@@ -1,11 +1,9 @@
 //! The form that checks what was written for a text.
-ghost use Rattle.std.specs.Prelude.{◌≡◌, ◌≢◌, ◌≤◌, ◌^◌, IfOk, IfErr, length};
+ghost use Rattle.std.specs.Prelude.{◌≡◌, ◌≤◌, ◌^◌, IfOk, IfErr, length};
 ghost use Rattle.topo_reader.specs.TopologyIs.{LiesIn};
 ghost use Rattle.cert_format.specs.Content.{content_of};
-ghost use Rattle.cert_format.specs.Certificate.{certificate_text, KeepsLimits};
+ghost use Rattle.cert_format.specs.Certificate.{certificate_text, IsCertificate};
 ghost use Rattle.cert_checker.specs.declared.verdicts.Verdict.{Verdict};
-ghost use Rattle.cert_checker.specs.declared.verdicts.Verdict.TheVariants.{No};
-ghost use Rattle.cert_checker.specs.declared.verdicts.Reason.TheVariants.{Form};
 ghost use Rattle.top_call.specs.Reading.{texts_read, AreShort};
 ghost use Rattle.top_call.specs.Maps.{IsLoaded, IsRefused, topology_in};
 ghost use Rattle.top_call.specs.Answers.{IsChecked, IsComparison};
@@ -34,7 +32,7 @@ fn judged(
     requires loaded { IsLoaded options.now (texts_read texts.now).file (topology_in loaded) loaded.partly.held }
     requires span { LiesIn (texts_read texts.now).file loaded.arcs_at }
     requires text { certificate_text (content_of certificate.now) ≡ (texts_read texts.now).cert }
-    requires limits { KeepsLimits (content_of certificate.now) }
+    requires certificate { IsCertificate (content_of certificate.now) }
     ensures told { IfOk result (IsChecked options.now bound (texts_read texts.now)) }
     ensures refused { IfErr result (λ s. s ≡ Status.NoMemory) }
 {
@@ -75,7 +73,7 @@ pub fn verdict_on(
     texts: &Texts,
 ) -> Result<Verdict, Status>
     requires { AreShort (texts_read texts.now) }
-    ensures told { IfOk result (λ verdict. verdict ≢ No Form → IsChecked options.now bound (texts_read texts.now) verdict) }
+    ensures told { IfOk result (IsChecked options.now bound (texts_read texts.now)) }
     ensures refused { IfErr result (IsRefused options.now (texts_read texts.now).file) }
     ensures status { IfErr result IsMapStatus }
 {

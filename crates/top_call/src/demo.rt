@@ -3,9 +3,7 @@ ghost use Rattle.std.specs.Prelude.{◌≡◌, ◌≤◌, ◌^◌, IfOk, IfErr, 
 ghost use Rattle.map_gen.specs.Make.{made};
 ghost use Rattle.top_call.specs.Parts.{spelled};
 ghost use Rattle.top_call.specs.Requests.{IsMakeable};
-ghost use Rattle.top_call.specs.Maps.{IsRefused};
 ghost use Rattle.top_call.specs.Answers.{IsDemoed, plain, position_count, demo_text};
-ghost use Rattle.top_call.specs.Endings.{IsMapStatus};
 
 use crate::forms::Options;
 use crate::loading::{load, weights_of};
@@ -76,13 +74,12 @@ pub fn no_options() -> Options
     }
 }
 
-/// What comes of thinning such a coverage within the bound, in five lines of numbers. Want of memory is an error, and so
-/// would be a status with which the text is refused: that a coverage is an arranged topology is no clause yet.
+/// What comes of thinning such a coverage within the bound, in five lines of numbers. The only error is want of memory: a
+/// coverage is an arranged topology.
 pub fn demo(alloc: Global, rows: u32, cols: u32, seed: u32, bound: Bound) -> Result<Vec<u8>, Status>
     requires { IsMakeable rows cols seed }
     ensures written { IfOk result (λ bytes. IsDemoed rows cols seed bound bytes.items) }
-    ensures refused { IfErr result (IsRefused plain (made rows cols seed)) }
-    ensures status { IfErr result IsMapStatus }
+    ensures status { IfErr result (λ s. s ≡ Status.NoMemory) }
 {
     let text = match coverage(alloc, rows, cols, seed) {
         Ok(text) => text,

@@ -6,6 +6,7 @@ mod checking;
 mod demo;
 mod faces;
 mod forms;
+mod laws;
 mod loading;
 mod message;
 mod parts;
@@ -17,6 +18,9 @@ mod verdict;
 mod words;
 
 pub use forms::{Options, Request};
+pub use laws::{
+    check_answers_yes, records_are_judged_yes, simplified_checks_yes, simplified_reads_back,
+};
 pub use running::run;
 pub use status::{Limit, Meeting, Role, Status};
 pub use words::request;

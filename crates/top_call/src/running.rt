@@ -8,7 +8,8 @@ ghost use Rattle.top_call.specs.Reading.{limit_of, named, texts_read, AreHeld, A
 ghost use Rattle.top_call.specs.Messages.{message_of};
 ghost use Rattle.top_call.specs.Verdicts.{verdict_line};
 ghost use Rattle.top_call.specs.Answers.{verdict_status, IsWorkAnswer, IsFormAnswer, IsAnswer};
-ghost use Rattle.top_call.specs.Endings.{IsMapStatus, IsWritten, IsWorkStatus, IsSilent, ReadsTexts, names_of, Replies, Settles, OrForm, Notes};
+ghost use Rattle.top_call.specs.Endings.{IsMapStatus, IsWritten, IsWorkStatus, IsSilent, ReadsTexts, names_of, Replies, Settles, Notes};
+ghost use Rattle.top_call.specs.Headline.{Headline, Completes, IsMaking, IsMakingStatus, Makes};
 
 use crate::checking::verdict_on;
 use crate::demo::{coverage, demo};
@@ -92,7 +93,7 @@ fn work<O: Sink>(alloc: Global, request: &Request<'_>, texts: &Texts, out: &mut 
     ensures silent { IsSilent result → out.new ≡ out.old }
     ensures write_fault { result ≡ Status.WriteFault → Rose (O.faults out.old) (O.faults out.new) }
     ensures no_write_fault { result ≢ Status.WriteFault → O.faults out.new ≡ O.faults out.old }
-    ensures answers { Settles (OrForm (IsWorkAnswer (form request.now) (texts_read texts.now))) O.tells (O.written out.old) (O.written out.new) result }
+    ensures answers { Settles (IsWorkAnswer (form request.now) (texts_read texts.now)) O.tells (O.written out.old) (O.written out.new) result }
 {
     match request {
         Request::Simplify(options, bound, _) => {
@@ -122,11 +123,12 @@ fn respond<I: Inputs, O: Sink>(
     requires { IsWithinLimits (form request.now) }
     ensures form { result ≢ Status.Usage }
     ensures unread { named (form request.now) ≡ [] → inputs.new ≡ inputs.old }
+    ensures made { IsMaking (form request.now) → IsMakingStatus result }
     ensures reads { ReadsTexts I.tells (I.texts inputs.old) (named (form request.now)) (I.faults inputs.old) (I.faults inputs.new) (I.strays inputs.old) (I.strays inputs.new) (I.given inputs.new) result }
     ensures silent { IsSilent result → out.new ≡ out.old }
     ensures write_fault { result ≡ Status.WriteFault → Rose (O.faults out.old) (O.faults out.new) }
     ensures no_write_fault { result ≢ Status.WriteFault → O.faults out.new ≡ O.faults out.old }
-    ensures answers { IsTrue I.tells → Settles (OrForm (IsFormAnswer (form request.now) (I.texts inputs.old))) O.tells (O.written out.old) (O.written out.new) result }
+    ensures answers { IsTrue I.tells → Settles (IsFormAnswer (form request.now) (I.texts inputs.old)) O.tells (O.written out.old) (O.written out.new) result }
 {
     match read_texts(alloc, request, inputs) {
         Ok(texts) => work(alloc, request, &texts, out),
@@ -143,11 +145,12 @@ fn answer<I: Inputs, O: Sink>(
 ) -> Status
     ensures usage { (result ≡ Status.Usage) ↔ (form_of (bytes_of words.now) ≡ None) }
     ensures unread { names_of (form_of (bytes_of words.now)) ≡ [] → inputs.new ≡ inputs.old }
+    ensures made { Makes (bytes_of words.now) result }
     ensures reads { ReadsTexts I.tells (I.texts inputs.old) (names_of (form_of (bytes_of words.now))) (I.faults inputs.old) (I.faults inputs.new) (I.strays inputs.old) (I.strays inputs.new) (I.given inputs.new) result }
     ensures silent { IsSilent result → out.new ≡ out.old }
     ensures write_fault { result ≡ Status.WriteFault → Rose (O.faults out.old) (O.faults out.new) }
     ensures no_write_fault { result ≢ Status.WriteFault → O.faults out.new ≡ O.faults out.old }
-    ensures answers { IsTrue I.tells → Settles (OrForm (IsAnswer (bytes_of words.now) (I.texts inputs.old))) O.tells (O.written out.old) (O.written out.new) result }
+    ensures answers { IsTrue I.tells → Settles (IsAnswer (bytes_of words.now) (I.texts inputs.old)) O.tells (O.written out.old) (O.written out.new) result }
 {
     match &request(words) {
         Some(request) => respond(alloc, request, inputs, out),
@@ -162,6 +165,17 @@ fn is_written(status: &Status) -> bool
     matches!(status, Status::Done | Status::No(_))
 }
 
+// Tells how the run ended, but where the bytes of a form were written.
+fn tell_end<N: Sink>(note: &mut N, status: &Status)
+    ensures no_note { IsWritten status.now → note.new ≡ note.old }
+    ensures note { IsTrue N.tells → ¬ (IsWritten status.now)
+        → Notes (N.faults note.old) (N.faults note.new) (N.written note.old) (N.written note.new) (message_of status.now) }
+{
+    if !is_written(status) {
+        let _ = tell(note, status);
+    }
+}
+
 /// Does what the words ask for, and says how it ended. The bytes of the form go to `out`, and the message of each
 /// status but `Done` and `No` goes to `note`; a failed write to `note` changes no status.
 ///
@@ -169,6 +183,11 @@ fn is_written(status: &Status) -> bool
 /// first that applies is the answer: FILE is no JSON text, or no topology; the weights take a position off the grid; the
 /// map is not arranged and no arcs are to be held; else the work is done. `NoMemory` may stand in place of each of them
 /// until the first byte is written.
+///
+/// What `simplify` writes is faithful to the text: each byte stands but those of the value of `arcs`. Each arc there has
+/// some of its positions, both ends of each chain among them, and each that is skipped is within the bound of the edge
+/// that skips it; held arcs are unchanged. The map is arranged beside the held arcs, each feature point is in the same
+/// polygons, and no chain could have fewer vertices when its turn came.
 pub fn run<I: Inputs, O: Sink, N: Sink>(
     alloc: Global,
     words: &[String],
@@ -200,8 +219,18 @@ pub fn run<I: Inputs, O: Sink, N: Sink>(
     ensures no_write_fault { result ≢ Status.WriteFault → O.faults out.new ≡ O.faults out.old }
 
     // The status and the bytes are those of the answer.
-    ensures answers { IsTrue I.tells → Settles (OrForm (IsAnswer (bytes_of words.now) (I.texts inputs.old)))
+    ensures answers { IsTrue I.tells → Settles (IsAnswer (bytes_of words.now) (I.texts inputs.old))
         O.tells (O.written out.old) (O.written out.new) result }
+
+    // What is written of a text that is simplified is faithful to the text.
+    ensures headline { IsTrue I.tells → IsTrue O.tells → Headline (bytes_of words.now) (I.texts inputs.old) (O.written out.old) (O.written out.new) result }
+
+    // Where FILE is held, short and loads, and no call failed, the work is done, or memory was wanting.
+    ensures complete { IsTrue I.tells → ¬ (Rose (I.faults inputs.old) (I.faults inputs.new)) → ¬ (Rose (O.faults out.old) (O.faults out.new))
+        → Completes (bytes_of words.now) (I.texts inputs.old) result }
+
+    // A coverage is made and thinned, or a write failed, or memory was wanting.
+    ensures made { Makes (bytes_of words.now) result }
 
     // The message of each status but Done and No.
     ensures no_note { IsWritten result → note.new ≡ note.old }
@@ -209,8 +238,6 @@ pub fn run<I: Inputs, O: Sink, N: Sink>(
         → Notes (N.faults note.old) (N.faults note.new) (N.written note.old) (N.written note.new) (message_of result) }
 {
     let status = answer(alloc, words, inputs, out);
-    if !is_written(&status) {
-        let _ = tell(note, &status);
-    }
+    tell_end(note, &status);
     status
 }

@@ -1,5 +1,5 @@
 //! The texts that a request names, each read whole within its limit.
-ghost use Rattle.std.specs.Prelude.{◌≡◌, ◌≢◌, ◌≤◌, ◌<◌, ◌⊎◌, [], ◌∷◌, IsTrue, IsSome, IsErrOf, IfOk, IfErr, OnOk, length};
+ghost use Rattle.std.specs.Prelude.{◌≡◌, ◌≢◌, ◌≤◌, ◌<◌, ◌⊎◌, [], ◌∷◌, IsTrue, IsOk, IsSome, IsErrOf, IfOk, IfErr, OnOk, length};
 ghost use Rattle.outside_io.specs.Causes.{Rose};
 ghost use Rattle.outside_io.specs.Texts.{text_of};
 ghost use Rattle.top_call.specs.Requests.{form};
@@ -143,6 +143,7 @@ pub fn read_texts<I: Inputs>(
     ensures short { IfOk result (λ texts. AreShort (texts_read texts)) }
     ensures statuses { IfErr result IsReadingStatus }
     ensures unread { named (form request.now) ≡ [] → inputs.new ≡ inputs.old }
+    ensures unnamed { named (form request.now) ≡ [] → IsOk result }
 
     ensures read_fault { IsErrOf result Status.ReadFault → Rose (I.faults inputs.old) (I.faults inputs.new) }
     ensures no_read_fault { OnOk result (I.faults inputs.new ≡ I.faults inputs.old) }

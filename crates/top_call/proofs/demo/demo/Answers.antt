@@ -5,12 +5,14 @@ use Rattle.top_call.specs.declared.forms.Options.{Options}
 use Rattle.top_call.specs.Maps.{IsRefused, topology_in}
 use Rattle.top_call.specs.Answers.{plain, position_count, demo_text}
 use Rattle.top_call.proofs.Demoed.{demoed_by}
+use Rattle.top_call.proofs.NotRefused.{made_wants_memory}
 use Rattle.top_call.proofs.demo.demo.Goals as goal
 
-pub returns-in-Err-load-clause-refused : goal.returns-in-Err-load-clause-refused
-returns-in-Err-load-clause-refused c =
+pub returns-in-Err-load-clause-status : goal.returns-in-Err-load-clause-status
+returns-in-Err-load-clause-status c =
     let by_plain = subst (λ (o : Options). IsRefused o c.deref.result.now c.in-Err-load.status) c.no_options-options.ensures c.in-Err-load.ensures.refused in
-    subst (λ (text : List ℕ). IsRefused plain text c.in-Err-load.status) (c.deref.ensures.value ∙ c.in-Ok.ensures.made) by_plain
+    made_wants_memory c.args.rows c.args.cols c.args.seed c.in-Err-load.status c.requires
+    (subst (λ (text : List ℕ). IsRefused plain text c.in-Err-load.status) (c.deref.ensures.value ∙ c.in-Ok.ensures.made) by_plain)
 
 pub returns-in-Ok-lines_of-clause-written : goal.returns-in-Ok-lines_of-clause-written
 returns-in-Ok-lines_of-clause-written c =

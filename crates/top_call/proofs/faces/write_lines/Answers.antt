@@ -1,7 +1,6 @@
 -- Each line is gathered or written, and at the end the gathered ones are written.
-use Rattle.std.proofs.Common.{◌∙◌, ◌≡◌, ◌++◌, ◌+◌, ◌<◌, ◌≤◌, List, ℕ, [], length, ap, refl, sym, arith, subst}
+use Rattle.std.proofs.Common.{◌∙◌, ◌++◌, ◌+◌, List, ℕ, ap, refl, arith, subst}
 use Rattle.outside_io.specs.Texts.{AppendsPrefix}
-use Rattle.face_parity.specs.Lines.{line_of}
 use Rattle.top_call.specs.Answers.{faces_text}
 use Rattle.top_call.proofs.PointLines.{lines_from, next_written, no_more}
 use Rattle.top_call.proofs.Writing.{line_added, line_failed, piece_written, all_written, piece_failed}

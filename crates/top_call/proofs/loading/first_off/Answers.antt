@@ -1,5 +1,5 @@
 -- Each arc stays on the grid.
-use Rattle.std.proofs.Common.{◌<◌, ◌≡◌, List, [], length, get_or, sym, subst, All, arith}
+use Rattle.std.proofs.Common.{List, [], get_or, subst, All, arith}
 use Rattle.std.proofs.lemmas.List.{get_or_default}
 use Rattle.grid_exact.specs.Geometry.{Place}
 use Rattle.grid_exact.specs.Weights.{StaysOnGrid}

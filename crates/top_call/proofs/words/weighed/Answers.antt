@@ -1,4 +1,3 @@
-use Rattle.std.proofs.Common.{arith}
 use Rattle.std.proofs.lemmas.List.{length-map}
 use Rattle.top_call.specs.Requests.{bytes_of}
 use Rattle.top_call.proofs.OtherWords.{weighed_other}

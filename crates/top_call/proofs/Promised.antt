@@ -1,0 +1,174 @@
+-- The promises of a run, from its answer.
+use Rattle.std.proofs.Common.{◌≡◌, ◌∙◌, ℕ, ℤ, Bool, List, [], ◌∷◌, length, Option, None, Some, ap, refl, sym, subst, inl, inr, arith}
+use Rattle.std.proofs.lemmas.List.{append_cancel_left}
+use Rattle.std.specs.Prelude.{◌≢◌, ◌⊎◌, ◌≤◌, IsTrue}
+use Rattle.std.proofs.lemmas.Option.{none-some, same_Some}
+use Rattle.outside_io.specs.Texts.{Texts, text_of}
+use Rattle.json_scan.specs.declared.walk.ScanError.{ScanError}
+use Rattle.json_scan.specs.declared.walk.ScanError.TheVariants as refusals
+use Rattle.topo_reader.specs.declared.fault.ReadFault.{ReadFault as Fault}
+use Rattle.topo_reader.specs.declared.fault.ReadFault.TheVariants as faults
+use Rattle.topo_reader.specs.Reads.{TopologyRead}
+use Rattle.top_call.specs.declared.forms.Options.{Options}
+use Rattle.top_call.specs.declared.status.Role.{Role}
+use Rattle.top_call.specs.declared.status.Role.TheVariants.{File}
+use Rattle.top_call.specs.declared.status.Status.{Status}
+use Rattle.top_call.specs.declared.status.Status.TheVariants.{Done, No, Usage, NotUtf8, NotJson, NotTopology, OffProfile, TooLarge, NotArranged, ReadFault, WriteFault, NoMemory, OffWeights}
+use Rattle.top_call.specs.Words.{Form, Simplify, Layers, Check, Faces, Make, Demo, form_of}
+use Rattle.top_call.specs.Reading.{Read, Named, named, limit_of, AreRead, IsFirstPast, IsPast, IsFirstUnheld}
+use Rattle.top_call.specs.Maps.{IsLoaded, NoTree, NoTopology, Clash, OnArc, IsRefusal, NoMap, OffGrid, Unarranged, scan_status, fault_status}
+use Rattle.top_call.specs.Answers.{Answer, plain, IsSimplified, IsCertified, IsFaced, IsMapAnswer, Refused, Written, IsWorkAnswer, IsFormAnswer, NotHeld, TooLong, Worked, IsAnswerBy, IsAnswer}
+use Rattle.top_call.specs.Endings.{IsMapStatus, IsWritten, IsWorkStatus, Wrote, Settles}
+use Rattle.top_call.specs.Headline.{IsFaithful, Headline, IsReady, CanWork, Completes, IsMaking, IsMakingStatus, Makes}
+use Rattle.top_call.proofs.Faithful.{simplified_is_faithful}
+use Rattle.top_call.proofs.NotRefused.{loaded_not_refused}
+
+-- ---- answers that are known
+
+-- memory was wanting, or the run ended as its answer says
+answered : (IsIt : Answer → Type 0) (tells : Bool) (before now : List ℕ) (s : Status) → s ≢ ReadFault → s ≢ WriteFault → Settles IsIt tells before now s → (s ≡ NoMemory) ⊎ ((a : Answer) × IsIt a × (s ≡ a.status) × Wrote tells before now a.bytes)
+answered IsIt tells before now Done read write h = inr h
+answered IsIt tells before now (No r) read write h = inr h
+answered IsIt tells before now Usage read write h = inr h
+answered IsIt tells before now (NotUtf8 at) read write h = inr h
+answered IsIt tells before now (NotJson at) read write h = inr h
+answered IsIt tells before now (NotTopology kind at) read write h = inr h
+answered IsIt tells before now (OffProfile kind at) read write h = inr h
+answered IsIt tells before now (TooLarge limit) read write h = inr h
+answered IsIt tells before now (NotArranged meeting) read write h = inr h
+answered IsIt tells before now ReadFault read write h = absurd (read refl)
+answered IsIt tells before now WriteFault read write h = absurd (write refl)
+answered IsIt tells before now NoMemory read write h = inl refl
+answered IsIt tells before now (OffWeights arc at) read write h = inr h
+
+-- ---- what is written of a text that is simplified
+
+scan_kind : (e : ScanError) → IsMapStatus (scan_status e)
+scan_kind (refusals.NotUtf8 at) = tt
+scan_kind (refusals.NotJson at) = tt
+scan_kind (refusals.TooDeep at) = tt
+scan_kind refusals.NoMemory = tt
+
+fault_kind : (fault : Fault) → IsMapStatus (fault_status fault)
+fault_kind (faults.Shape kind at) = tt
+fault_kind (faults.Off kind at) = tt
+fault_kind (faults.TooMany what at) = tt
+fault_kind faults.NoMemory = tt
+
+-- a text is not refused with any other status
+pub refusal_kind : (options : Options) (text : List ℕ) (s : Status) → IsRefusal options text s → IsMapStatus s
+refusal_kind options text s (NoMap (NoTree e why is)) = subst IsMapStatus (sym is) (scan_kind e)
+refusal_kind options text s (NoMap (NoTopology tree fault has none is)) = subst IsMapStatus (sym is) (fault_kind fault)
+refusal_kind options text s (OffGrid t w arc at has some off is) = subst IsMapStatus (sym is) tt
+refusal_kind options text s (Unarranged t has stays (Clash e f none least is)) = subst IsMapStatus (sym is) tt
+refusal_kind options text s (Unarranged t has stays (OnArc k e none least is)) = subst IsMapStatus (sym is) tt
+
+faithful_answer : (options : Options) (bound : ℤ) (file text bytes : List ℕ) (texts : Texts) (a : Answer) → text_of texts file ≡ Some text → Done ≡ a.status → bytes ≡ a.bytes → IsFormAnswer (Simplify options bound file) texts a → IsFaithful options bound text bytes
+faithful_answer options bound file text bytes texts a is_text is_done is (NotHeld none e) =
+    let never : Done ≡ ReadFault = is_done ∙ ap (λ (b : Answer). b.status) e in
+    absurd cc
+faithful_answer options bound file text bytes texts a is_text is_done is (TooLong role past e) =
+    let never = is_done ∙ ap (λ (b : Answer). b.status) e in
+    absurd cc
+faithful_answer options bound file text bytes texts a is_text is_done is (Worked read are short (Refused s why e)) =
+    let same : s ≡ Done = sym (is_done ∙ ap (λ (b : Answer). b.status) e) in
+    absurd (subst IsMapStatus same (refusal_kind options read.file s why))
+faithful_answer options bound file text bytes texts a is_text is_done is (Worked read are short (Written out by e)) =
+    let of_text = same_Some read.file text (sym are.0 ∙ is_text) in
+    let of_bytes : out ≡ bytes = sym (is ∙ ap (λ (b : Answer). b.bytes) e) in
+    let simplified = subst (λ (xs : List ℕ). IsSimplified options bound read.file xs) of_bytes by in
+    simplified_is_faithful options bound text bytes (subst (λ (xs : List ℕ). IsSimplified options bound xs bytes) of_text simplified)
+
+pub headline : (words : List (List ℕ)) (texts : Texts) (tells : Bool) (before now : List ℕ) (s : Status) → Settles (IsAnswer words texts) tells before now s → IsTrue tells → Headline words texts before now s
+headline words texts tells before now s settled told options bound file text bytes is_form is_text is_done wrote =
+    let known = subst (λ (r : Status). Settles (IsAnswer words texts) tells before now r) is_done settled in
+    let answer = subst (λ (o : Option Form). IsAnswerBy o texts known.0) is_form known.1 in
+    faithful_answer options bound file text bytes texts known.0 is_text known.2 (append_cancel_left before bytes known.0.bytes (sym wrote ∙ known.3 told)) answer
+
+-- ---- which texts are worked on
+
+not_unheld : (texts : Texts) (file text : List ℕ) → text_of texts file ≡ Some text → IsFirstUnheld texts ((File, file) ∷ []) → ⊥
+not_unheld texts file text is (inl none) = none-some text (sym none ∙ is)
+not_unheld texts file text is (inr later) = later.1
+
+not_past : (texts : Texts) (file text : List ℕ) (role : Role) → text_of texts file ≡ Some text → length text ≤ limit_of File → IsFirstPast texts ((File, file) ∷ []) role → ⊥
+not_past texts file text role is short (inl past) =
+    let long = subst (IsPast File) is past.1 in
+    omega (arith, short, long)
+not_past texts file text role is short (inr later) = later.1
+
+map_done : (options : Options) (text : List ℕ) (W : List ℕ → Type 0) (t : TopologyRead) (held : List ℕ) (a : Answer) → IsLoaded options text t held → IsMapAnswer options text W a → a.status ≡ Done
+map_done options text W t held a loaded (Refused s why e) = absurd (loaded_not_refused options text t held s loaded why)
+map_done options text W t held a loaded (Written bytes is e) = ap (λ (b : Answer). b.status) e
+
+-- the answer of a form that works on the map of FILE alone
+ready_answer : (options : Options) (file : List ℕ) (W : List ℕ → List ℕ → Type 0) (f : Form) (texts : Texts) (a : Answer) → named f ≡ (File, file) ∷ [] → ((read : Read) → IsWorkAnswer f read a → IsMapAnswer options read.file (W read.file) a) → IsReady options texts file → IsFormAnswer f texts a → a.status ≡ Done
+ready_answer options file W f texts a names works ready (NotHeld none e) =
+    absurd (not_unheld texts file ready.text ready.is_held (subst (λ (ns : List Named). IsFirstUnheld texts ns) names none))
+ready_answer options file W f texts a names works ready (TooLong role past e) =
+    absurd (not_past texts file ready.text role ready.is_held ready.short (subst (λ (ns : List Named). IsFirstPast texts ns role) names past))
+ready_answer options file W f texts a names works ready (Worked read are short work) =
+    let here = subst (λ (ns : List Named). AreRead texts ns read) names are in
+    let same = same_Some ready.text read.file (sym ready.is_held ∙ here.0) in
+    let loaded = subst (λ (xs : List ℕ). IsLoaded options xs ready.topology ready.held) same ready.loaded in
+    map_done options read.file (W read.file) ready.topology ready.held a loaded (works read work)
+
+form_done : (f : Form) (texts : Texts) (a : Answer) → CanWork f texts → IsFormAnswer f texts a → a.status ≡ Done
+form_done (Simplify options bound file) texts a ready is = ready_answer options file (λ text bytes. IsSimplified options bound text bytes) (Simplify options bound file) texts a refl (λ read work. work) ready is
+form_done (Layers options bound file) texts a ready is = ready_answer options file (λ text bytes. IsCertified options bound text bytes) (Layers options bound file) texts a refl (λ read work. work) ready is
+form_done (Faces file) texts a ready is = ready_answer plain file (λ text bytes. IsFaced text bytes) (Faces file) texts a refl (λ read work. work) ready is
+form_done (Check options bound file out cert) texts a ready is = absurd ready
+form_done (Make rows cols seed) texts a ready is = absurd ready
+form_done (Demo rows cols seed bound) texts a ready is = absurd ready
+
+pub completes : (words : List (List ℕ)) (texts : Texts) (tells : Bool) (before now : List ℕ) (s : Status) → Settles (IsAnswer words texts) tells before now s → s ≢ ReadFault → s ≢ WriteFault → Completes words texts s
+completes words texts tells before now s settled read write f is_form can =
+    elim (answered (IsAnswer words texts) tells before now s read write settled) [
+      | inl none ↦ inr none
+      | inr known ↦ inl (known.2 ∙ form_done f texts known.0 can (subst (λ (o : Option Form). IsAnswerBy o texts known.0) is_form known.1))
+    ]
+
+-- ---- the forms that make a coverage
+
+making_done : (f : Form) (read : Read) (a : Answer) → IsMaking f → IsWorkAnswer f read a → a.status ≡ Done
+making_done (Make rows cols seed) read a making is = ap (λ (b : Answer). b.status) is
+making_done (Demo rows cols seed bound) read a making is = ap (λ (b : Answer). b.status) is.2
+making_done (Simplify options bound file) read a making is = absurd making
+making_done (Layers options bound file) read a making is = absurd making
+making_done (Check options bound file out cert) read a making is = absurd making
+making_done (Faces file) read a making is = absurd making
+
+-- a work status that is no failed write is no failed read
+not_read_fault : (s : Status) → IsWorkStatus s → s ≢ ReadFault
+not_read_fault s (inl written) is = subst IsWritten is written
+not_read_fault s (inr (inl failed)) is = let never : WriteFault ≡ ReadFault = sym failed ∙ is in absurd cc
+not_read_fault s (inr (inr kind)) is = subst IsMapStatus is kind
+
+making_settled : (f : Form) (read : Read) (tells : Bool) (before now : List ℕ) (s : Status) → IsMaking f → s ≢ ReadFault → s ≢ WriteFault → Settles (IsWorkAnswer f read) tells before now s → IsMakingStatus s
+making_settled f read tells before now s making no_read no_write settled =
+    elim (answered (IsWorkAnswer f read) tells before now s no_read no_write settled) [
+      | inl none ↦ inr (inr none)
+      | inr known ↦ inl (known.2 ∙ making_done f read known.0 making known.1)
+    ]
+
+pub making_ends : (f : Form) (read : Read) (tells : Bool) (before now : List ℕ) (s : Status) → IsWorkStatus s → Settles (IsWorkAnswer f read) tells before now s → IsMaking f → IsMakingStatus s
+making_ends f read tells before now s (inr (inl failed)) settled making = inr (inl failed)
+making_ends f read tells before now s (inl written) settled making =
+    making_settled f read tells before now s making (not_read_fault s (inl written)) (λ is. subst IsWritten is written) settled
+making_ends f read tells before now s (inr (inr kind)) settled making =
+    making_settled f read tells before now s making (not_read_fault s (inr (inr kind))) (λ is. subst IsMapStatus is kind) settled
+
+pub making_names_none : (f : Form) → IsMaking f → named f ≡ []
+making_names_none (Make rows cols seed) making = refl
+making_names_none (Demo rows cols seed bound) making = refl
+making_names_none (Simplify options bound file) making = absurd making
+making_names_none (Layers options bound file) making = absurd making
+making_names_none (Check options bound file out cert) making = absurd making
+making_names_none (Faces file) making = absurd making
+
+-- what is said of the form of the words
+pub makes_by : (words : List (List ℕ)) (g : Form) (s : Status) → Some g ≡ form_of words → (IsMaking g → IsMakingStatus s) → Makes words s
+makes_by words g s is ends f is_form making = ends (subst IsMaking (same_Some f g (sym is_form ∙ sym is)) making)
+
+pub makes_none : (words : List (List ℕ)) (s : Status) → None ≡ form_of words → Makes words s
+makes_none words s is f is_form making = absurd (none-some f (is ∙ is_form))

@@ -1,0 +1,94 @@
+-- What is promised of a run: the text that `simplify` writes is faithful to the one that it was given, a text that loads is worked on, and
+-- `make` and `demo` refuse nothing.
+use Rattle.std.specs.Prelude.{◌≡◌, ◌⊎◌, ◌-◌, ◌<◌, ◌≤◌, ℕ, ℤ, List, ◌++◌, length, take, get_or, Some}
+use Rattle.grid_exact.specs.Paths.{Certifies}
+use Rattle.arc_map.specs.Map.{Map}
+use Rattle.arc_map.specs.Records.{Record}
+use Rattle.arc_map.specs.Work.{Work, work_of}
+use Rattle.outside_io.specs.Texts.{Texts, text_of}
+use Rattle.topo_reader.specs.Reads.{TopologyRead}
+use Rattle.chain_replace.specs.Laws.{KeepsFaces}
+use Rattle.chain_replace.specs.Run.{Terms, IsAllowedIn, last_of, IsRecordOf, AreReplaced, IsOutcome}
+use Rattle.chain_replace.specs.Thinned.{ThinsArcs}
+use Rattle.top_call.specs.declared.forms.Options.{Options}
+use Rattle.top_call.specs.declared.status.Role.TheVariants.{File}
+use Rattle.top_call.specs.declared.status.Status.{Status}
+use Rattle.top_call.specs.declared.status.Status.TheVariants.{Done, WriteFault, NoMemory}
+use Rattle.top_call.specs.Words.{Form, Simplify, Layers, Faces, Make, Demo, form_of}
+use Rattle.top_call.specs.Reading.{limit_of}
+use Rattle.top_call.specs.Maps.{IsLoaded}
+use Rattle.top_call.specs.Answers.{plain, terms_of, text_with}
+
+-- ---- what is written of a text that is simplified
+
+-- The record number n is that of a chain in the map as the chains before it left it: it has the best path over the pairs that are allowed
+-- there, and its layers certify that no path has fewer vertices.
+pub record IsFewest (t : Terms) (start : Work) (records : List Record) (n : ℕ) (r : Record) : Type 0 where
+  pub chain : ℕ
+  pub found : Work
+  pub before : AreReplaced t start 0 chain (take n records) found
+  pub best : IsRecordOf t found chain r
+  pub certified : Certifies (IsAllowedIn t found chain) (last_of found chain) (length r.kept - 1) r.layers
+
+-- The bytes are faithful to the text.
+pub record IsFaithful (options : Options) (bound : ℤ) (text bytes : List ℕ) : Type 0 where
+  -- the text is that of this topology, with these held arcs
+  pub topology : TopologyRead
+  pub held : List ℕ
+  pub loaded : IsLoaded options text topology held
+  -- each byte stands but those of the value of `arcs`, where the arcs of a map are written
+  pub after : Map
+  pub written : bytes ≡ text_with text topology after
+  -- the map is what comes of replacing each chain in turn, with these records
+  pub records : List Record
+  pub run : IsOutcome topology.map (terms_of options bound held) after records
+  -- each of its arcs has some of the positions of the arc in the text, both ends of each chain among them; each position that is skipped
+  -- is within the bound of the edge that skips it; and a held arc has all of them
+  pub arcs : ThinsArcs (terms_of options bound held) topology.map run.refs after
+  -- it is arranged beside the held arcs, from each feature point each arc is crossed with the same parity, and each feature point is in
+  -- the same polygons
+  pub faces : KeepsFaces held topology.map after
+  -- no chain could have fewer vertices when its turn came
+  pub fewest : (n : ℕ) (d : Record) → n < length records → IsFewest (terms_of options bound held) (work_of topology.map run.refs) records n (get_or records n d)
+
+-- What `simplify` writes of a text that is held, where it is done, is faithful to the text.
+abbrev pub Headline : List (List ℕ) → Texts → List ℕ → List ℕ → Status → Type 0
+Headline words texts before now result =
+    (options : Options) (bound : ℤ) (file text bytes : List ℕ) → form_of words ≡ Some (Simplify options bound file) → text_of texts file ≡ Some text → result ≡ Done → now ≡ before ++ bytes → IsFaithful options bound text bytes
+
+-- ---- which texts are worked on
+
+-- FILE is held, is no longer than it may be, and loads
+pub record IsReady (options : Options) (texts : Texts) (file : List ℕ) : Type 0 where
+  pub text : List ℕ
+  pub is_held : text_of texts file ≡ Some text
+  pub short : length text ≤ limit_of File
+  pub topology : TopologyRead
+  pub held : List ℕ
+  pub loaded : IsLoaded options text topology held
+
+-- the form works on the map of FILE alone, and FILE is ready
+abbrev pub CanWork : Form → Texts → Type 0
+CanWork (Simplify options bound file) texts = IsReady options texts file
+CanWork (Layers options bound file) texts = IsReady options texts file
+CanWork (Faces file) texts = IsReady plain texts file
+CanWork f texts = ⊥
+
+-- where FILE is ready, its work is done, or memory was wanting
+abbrev pub Completes : List (List ℕ) → Texts → Status → Type 0
+Completes words texts result = (f : Form) → form_of words ≡ Some f → CanWork f texts → (result ≡ Done) ⊎ (result ≡ NoMemory)
+
+-- ---- the forms that make a coverage
+
+abbrev pub IsMaking : Form → Type 0
+IsMaking (Make rows cols seed) = Unit {0}
+IsMaking (Demo rows cols seed bound) = Unit {0}
+IsMaking f = ⊥
+
+-- the bytes are written, or a write failed, or memory was wanting
+abbrev pub IsMakingStatus : Status → Type 0
+IsMakingStatus s = (s ≡ Done) ⊎ ((s ≡ WriteFault) ⊎ (s ≡ NoMemory))
+
+-- `make` and `demo` end in no other way
+abbrev pub Makes : List (List ℕ) → Status → Type 0
+Makes words result = (f : Form) → form_of words ≡ Some f → IsMaking f → IsMakingStatus result
