@@ -24,7 +24,7 @@ pub fn first_difference(expected: &[u8], got: &[u8]) -> Option<usize>
     }
 }
 
-/// Adds a piece so many times. After an error the bytes are as they were.
+/// Adds a piece so many times. The only error is want of memory.
 pub fn push_piece(
     alloc: Global,
     bytes: &mut Vec<u8>,
