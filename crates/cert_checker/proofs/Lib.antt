@@ -18,3 +18,4 @@ pub mod Knowing
 pub mod Progress
 pub mod Uniqueness
 pub mod Keeping
+pub mod Coned

@@ -26,13 +26,17 @@ between_at ps i j n d below = get_or-take (j - (i + 1)) (drop (i + 1) ps) n d be
 between_count : (ps : List Place) (i j : ℕ) → j ≤ length ps → length (between (i + 1) j ps) ≡ j - (i + 1)
 between_count ps i j within = length-take-le (j - (i + 1)) (drop (i + 1) ps) (omega (arith, length-drop (i + 1) ps))
 
--- a place of the run that is too far away
-pub run_fails : (bound : ℤ) (ps : List Place) (i j n : ℕ) → i < n → n < j → j ≤ length ps → (IsWithin (place_at ps i) (place_at ps j) (place_at ps n) bound → ⊥) → IsRunWithin bound ps i j → ⊥
-run_fails bound ps i j n after before within far all =
+-- a place of a run that is near
+pub run_near : (bound : ℤ) (ps : List Place) (i j n : ℕ) → i < n → n < j → j ≤ length ps → IsRunWithin bound ps i j → IsWithin (place_at ps i) (place_at ps j) (place_at ps n) bound
+run_near bound ps i j n after before within all =
     let size = between_count ps i j within in
     let inside : n - (i + 1) < j - (i + 1) = omega arith in
     let place : i + 1 + (n - (i + 1)) ≡ n = omega arith in
-    far (subst (λ q. IsWithin (place_at ps i) (place_at ps j) q bound) (between_at ps i j (n - (i + 1)) nowhere inside ∙ ap (λ m. get_or ps m nowhere) place) (all (n - (i + 1)) nowhere (omega (arith, size, inside))))
+    subst (λ q. IsWithin (place_at ps i) (place_at ps j) q bound) (between_at ps i j (n - (i + 1)) nowhere inside ∙ ap (λ m. get_or ps m nowhere) place) (all (n - (i + 1)) nowhere (omega (arith, size, inside)))
+
+-- a place of the run that is too far away
+pub run_fails : (bound : ℤ) (ps : List Place) (i j n : ℕ) → i < n → n < j → j ≤ length ps → (IsWithin (place_at ps i) (place_at ps j) (place_at ps n) bound → ⊥) → IsRunWithin bound ps i j → ⊥
+run_fails bound ps i j n after before within far all = far (run_near bound ps i j n after before within all)
 
 -- each place of the run is near enough
 pub run_holds : (bound : ℤ) (ps : List Place) (i j : ℕ) → j ≤ length ps → ((n : ℕ) → i < n → n < j → IsWithin (place_at ps i) (place_at ps j) (place_at ps n) bound) → IsRunWithin bound ps i j
@@ -58,7 +62,7 @@ near_more bound ps i j at here before n after below = elim (cases_eq n at) [
 
 -- ---- runs of weighted places
 
-weighted_at : (wx wy : ℤ) (ps : List Place) (i : ℕ) → i < length ps → place_at (map (weighted wx wy) ps) i ≡ weighted wx wy (place_at ps i)
+pub weighted_at : (wx wy : ℤ) (ps : List Place) (i : ℕ) → i < length ps → place_at (map (weighted wx wy) ps) i ≡ weighted wx wy (place_at ps i)
 weighted_at wx wy ps i within = get_or-map (weighted wx wy) ps i nowhere nowhere within
 
 -- the weighted places tell what is near

@@ -2,7 +2,9 @@
 ghost use Rattle.std.specs.Prelude.{◌≡◌, ◌<◌, ◌≤◌, ◌+◌, ◌↔◌, IsTrue, MatchOption, length};
 ghost use Rattle.arc_map.specs.Chains.{Chain, chain_at};
 ghost use Rattle.arc_map.specs.Work.{AreKeptIn};
+ghost use Rattle.error_cone.specs.Courses.{IsConeFrom, LetsNear};
 ghost use Rattle.cert_checker.specs.Judged.{AreSteps, EndWell, FallSlowly, IsAccepted, IsFault, IsFirstBadStep, IsFirstFall};
+ghost use Rattle.cert_checker.specs.Runs.{place_at};
 ghost use Rattle.cert_checker.specs.Subject.{FallFirstAt, FallNowhere, IsSubjectOf, edge_count, pairs_of, record_of};
 ghost use Rattle.cert_checker.specs.declared.verdicts.Verdict.TheVariants.{No};
 
@@ -10,6 +12,8 @@ use crate::indexed::IndexedMap;
 use crate::near::is_near;
 use crate::verdicts::Reason;
 use arc_map::ChainRecord;
+use chain_side::comes_before;
+use error_cone::Cone;
 use grid_exact::{Bound, Point, Weights};
 
 // A chain that is judged: its number, its vertices with their coordinates times the weights, and the bound.
@@ -91,15 +95,38 @@ fn first_fall_from(
         (FallFirstAt (pairs_of indexed.now subject.now.chain subject.now.weights subject.now.bound) layers.now i) }
 {
     let limit = layers[i].saturating_sub(1);
+    if limit == 0 {
+        return None;
+    }
     let mut culprit = 0;
+    let mut cone = cone_from(indexed, subject, i);
     for j in i + 1..layers.len() {
         if layers[j] < limit {
             if allows(indexed, subject, i, j, &mut culprit) {
                 return Some(j);
             }
+            cone.take(subject.weighted[j]);
+            if cone.is_closed() {
+                return None;
+            }
         }
     }
     None
+}
+
+// The cone of the bound from the vertex number `i` of the chain, over the coordinates times the weights.
+fn cone_from(indexed: &IndexedMap, subject: &Subject<'_>, i: usize) -> Cone
+    requires subject { IsSubjectOf indexed.now subject.now.chain subject.now.weighted.now subject.now.weights }
+    requires start { i < length subject.now.weighted.now }
+    ensures start { IsConeFrom result (place_at subject.now.weighted.now) (length subject.now.weighted.now) subject.now.bound i }
+    ensures lets { LetsNear result (place_at subject.now.weighted.now) (length subject.now.weighted.now) subject.now.bound i (i + 1) }
+{
+    // The weights are above 0, as their readers say, so the weighted places run along as the chain does.
+    let _ = (subject.weights.x(), subject.weights.y());
+    let places = subject.weighted;
+    let frame = indexed.frame(subject.chain);
+    let rising = comes_before(frame, true, places[0], places[places.len() - 1]);
+    Cone::start(frame, rising, places[i], subject.bound)
 }
 
 // Whether the kept vertices rise from the first vertex of a chain of so many edges to its last.

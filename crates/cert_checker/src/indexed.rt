@@ -14,7 +14,7 @@ use crate::extent::Extent;
 use crate::plain::joins;
 use crate::sides::is_consistent;
 use arc_map::{ArcMap, EndTable, NoMemory, WorkMap};
-use grid_exact::Point;
+use grid_exact::{Frame, Point};
 use map_index::MapIndex;
 use std::alloc::Global;
 use std::marker::Model;
@@ -56,6 +56,14 @@ impl IndexedMap {
         ensures { result.now ≡ self.now }
     {
         &self.work
+    }
+
+    // The frame in which the chain number `k` runs strictly one way.
+    pub fn frame(&self, k: u32) -> Frame
+        requires { k < length self.now.chains }
+        ensures { result ≡ (chain_at self.now.chains k).frame }
+    {
+        self.index.frame(&self.work, k)
     }
 
     // Whether the feature points and all chains but the chain number `k`, which is clear, let its run between the vertices number

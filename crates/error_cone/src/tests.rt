@@ -1,0 +1,42 @@
+//! Worked cones.
+use super::*;
+use grid_exact::{Bound, Frame, Point};
+use std::test::Fail;
+
+fn point(x: i64, y: i64) -> Result<Point, Fail> {
+    Ok(Point::new(x, y).ok_or("a point of the grid")?)
+}
+
+// Whether the cone from the first point is closed by the other two.
+fn closes(
+    frame: Frame,
+    rising: bool,
+    bound: u64,
+    from: Point,
+    p: Point,
+    q: Point,
+) -> Result<bool, Fail> {
+    let bound = Bound::new(bound).ok_or("a bound")?;
+    let mut cone = Cone::start(frame, rising, from, bound);
+    cone.take(p);
+    cone.take(q);
+    Ok(cone.is_closed())
+}
+
+#[test]
+fn two_points_close_a_cone(rt: HostRuntime) -> Result<(), Fail> {
+    let (start, p, q) = (point(0, 0)?, point(1, 1)?, point(2, 0)?);
+    assert!(rt; closes(Frame::Plain, true, 0, start, p, q)?);
+    assert!(rt; !closes(Frame::Plain, true, 2, start, p, q)?);
+    assert!(rt; !closes(Frame::Plain, true, 0, start, p, point(2, 2)?)?);
+    assert!(rt; closes(Frame::Plain, false, 0, q, p, start)?);
+    Ok(())
+}
+
+#[test]
+fn one_line_meets_both_squares(rt: HostRuntime) -> Result<(), Fail> {
+    let (start, p) = (point(0, 0)?, point(0, 10)?);
+    assert!(rt; !closes(Frame::Turned, true, 1, start, p, point(4, 26)?)?);
+    assert!(rt; closes(Frame::Turned, true, 1, start, p, point(5, 26)?)?);
+    Ok(())
+}
