@@ -3,7 +3,7 @@
 
 mod run;
 
-pub use run::{first_far, near_run};
+pub use run::near_run;
 
 #[cfg(test)]
 mod tests;

@@ -1,5 +1,5 @@
 //! Worked runs.
-use crate::run::{first_far, near_run};
+use crate::run::near_run;
 use grid_exact::Bound;
 use std::process::Abort;
 
@@ -17,12 +17,4 @@ fn tells_near_runs(rt: HostRuntime) {
     let (past_x, past_y) = ([0, 1, 2], [0, 10, 1]);
     assert!(rt; !near_run(&past_x, &past_y, 0, 2, bound(&rt, 9)));
     assert!(rt; near_run(&past_x, &past_y, 0, 2, bound(&rt, 10)));
-}
-
-#[test]
-fn finds_the_first_far_vertex(rt: HostRuntime) {
-    let (xs, ys) = ([0, 1, 2, 3, 4], [0, 1, 3, 3, 0]);
-    assert_eq!(rt; first_far(&xs, &ys, 0, 4, bound(&rt, 3)), None);
-    assert_eq!(rt; first_far(&xs, &ys, 0, 4, bound(&rt, 2)), Some(2));
-    assert_eq!(rt; first_far(&xs, &ys, 2, 4, bound(&rt, 0)), Some(3));
 }

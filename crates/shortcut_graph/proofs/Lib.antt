@@ -7,3 +7,5 @@ pub mod Filling
 pub mod Marking
 pub mod ArrangedChains
 pub mod Coordinates
+pub mod Corridors
+pub mod Raised

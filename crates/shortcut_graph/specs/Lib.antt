@@ -1,2 +1,3 @@
 pub mod Weighed
 pub mod Doubles
+pub mod Corridor

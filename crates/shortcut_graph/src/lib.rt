@@ -1,6 +1,8 @@
 //! The pairs of a chain that are allowed, as rows of bits.
 #![tactic(auto)]
 
+mod corridor;
+mod course;
 mod doubles;
 mod pairs;
 mod ruler;

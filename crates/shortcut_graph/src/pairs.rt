@@ -1,17 +1,22 @@
 //! Rows of allowed pairs.
 ghost use Rattle.std.specs.Prelude.{◌≡◌, ◌≢◌, ◌⊎◌, ◌↔◌, ◌+◌, ◌<◌, ◌≤◌, ℕ, IsTrue, false, length, slice_index_or};
-ghost use Rattle.lane_kernels.specs.Places.{AreCoordinates};
+ghost use Rattle.lane_kernels.specs.Places.{AreCoordinates, place_at};
 ghost use Rattle.layer_paths.specs.Bits.{has_bit, HasBit};
 ghost use Rattle.arc_map.specs.Chains.{chain_at, chain_places, AreChains, IsClearIn, IsWithinBound};
 ghost use Rattle.arc_map.specs.Ends.{IsEndTable};
 ghost use Rattle.arc_map.specs.Paths.{IsAllowedPair};
+ghost use Rattle.error_cone.specs.Courses.{IsConeFrom, LetsNear};
 ghost use Rattle.side_wedge.specs.Flanks.{IsBeside};
 ghost use Rattle.shortcut_graph.specs.Weighed.{AreWeighed, IsNearRun};
+ghost use Rattle.shortcut_graph.specs.Corridor.{IsCorridor};
 ghost use Rattle.shortcut_graph.specs.Doubles.{IsOpenPair};
 
+use crate::corridor::{Corridor, Heading, heading_of};
+use crate::course::{Course, closes};
 use crate::doubles::is_doubled;
 use crate::ruler::{Ruler, is_near};
 use arc_map::{EndTable, WorkMap};
+use error_cone::Cone;
 use layer_paths::Rows;
 use side_wedge::Beside;
 
@@ -38,10 +43,12 @@ pub fn fill(
         → (HasBit rows.new i j ↔ IsAllowedPair (IsWithinBound ruler.now.weights.x ruler.now.weights.y ruler.now.bound) work.now.chains work.now.read.points k i j) }
 {
     let last = work.chain(k).len() - 1;
-    let mut culprit = 0;
+    let heading = heading_of(ruler);
+    let course = Course::of(work, k, beside, ruler);
     for start in 0..last {
         mark_open(work, ends, k, beside, start, row);
-        set_row(rows, ruler, start, row, &mut culprit);
+        let cone = course.cone_past_next(ruler, start);
+        set_row(rows, ruler, heading, cone, start, row);
     }
 }
 
@@ -71,19 +78,55 @@ fn mark_open(
     }
 }
 
-// Sets the bits of row `start` past it: that of the next vertex, and those of the open pairs whose run is within the bound.
-fn set_row(rows: &mut Rows, ruler: &Ruler<'_>, start: usize, is_open: &[bool], culprit: &mut usize)
+// Whether the pair of `start` and `end`, which are no neighbours, is open and its run within the bound. The corridor from `start`
+// stands for the vertices between.
+fn allows(
+    ruler: &Ruler<'_>,
+    is_open: &[bool],
+    start: usize,
+    end: usize,
+    corridor: &Corridor,
+) -> bool
+    requires coordinates { AreCoordinates ruler.now.xs.now ruler.now.ys.now }
+    requires count { length is_open.now ≡ length ruler.now.xs.now }
+    requires order { start < end }
+    requires within { end < length is_open.now }
+    requires corridor { IsCorridor corridor.now ruler.now.xs.now ruler.now.ys.now ruler.now.bound start end }
+    ensures { IsTrue result ↔ (IsTrue (slice_index_or is_open.now end false) × IsNearRun ruler.now.xs.now ruler.now.ys.now ruler.now.bound start end) }
+{
+    is_open[end] && is_near(ruler, start, end, corridor)
+}
+
+// Sets the bits of row `start` for the next vertex, and for the open pairs whose run is within the bound; all others are clear. The
+// cone starts there. Once it is closed no later vertex is near, so that no later bit is set.
+fn set_row(
+    rows: &mut Rows,
+    ruler: &Ruler<'_>,
+    heading: Heading,
+    mut cone: Cone,
+    start: usize,
+    is_open: &[bool],
+)
     requires coordinates { AreCoordinates ruler.now.xs.now ruler.now.ys.now }
     requires count { length is_open.now ≡ length ruler.now.xs.now }
     requires size { length is_open.now ≤ 1024 }
     requires start { start + 1 < length is_open.now }
+    requires cone { IsConeFrom cone (place_at ruler.now.xs.now ruler.now.ys.now) (length ruler.now.xs.now) ruler.now.bound start }
+    requires lets { LetsNear cone (place_at ruler.now.xs.now ruler.now.ys.now) (length ruler.now.xs.now) ruler.now.bound start (start + 2) }
     ensures row { (j : ℕ) → start < j → j < length is_open.now
         → (HasBit rows.new start j ↔ ((j ≡ start + 1) ⊎ (IsTrue (slice_index_or is_open.now j false) × IsNearRun ruler.now.xs.now ruler.now.ys.now ruler.now.bound start j))) }
     ensures others { (i j : ℕ) → i < 1024 → j < 1024 → i ≢ start → has_bit rows.new i j ≡ has_bit rows.old i j }
 {
+    rows.clear_row(start);
     rows.set(start, start + 1, true);
+    let mut corridor = Corridor::start(ruler, heading, start);
+    corridor.take(ruler, start + 1);
     for end in start + 2..is_open.len() {
-        let is_allowed = is_open[end] && is_near(ruler, start, end, culprit);
-        rows.set(start, end, is_allowed);
+        if allows(ruler, is_open, start, end, &corridor) {
+            rows.set(start, end, true);
+        } else if closes(&mut cone, ruler, end) {
+            return;
+        }
+        corridor.take(ruler, end);
     }
 }

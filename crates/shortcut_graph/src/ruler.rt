@@ -1,9 +1,11 @@
 //! How near the vertices of a chain are to a segment between two of them.
 ghost use Rattle.std.specs.Prelude.{◌≡◌, ◌↔◌, ◌+◌, ◌<◌, IsTrue, length};
 ghost use Rattle.lane_kernels.specs.Places.{AreCoordinates};
+ghost use Rattle.shortcut_graph.specs.Corridor.{IsCorridor};
 ghost use Rattle.shortcut_graph.specs.Weighed.{IsFarBetween, IsNearRun};
 
-use error_band::first_far;
+use crate::corridor::Corridor;
+use error_band::near_run;
 use grid_exact::{Bound, Weights, within};
 use lane_kernels::point_at;
 
@@ -21,24 +23,29 @@ pub struct Ruler<'a> {
     pub weights: Weights,
 }
 
-// Whether each vertex strictly between i and j is within the bound of the segment between these two. Nearly always the vertex
-// that was too far last is too far again, so the one at the place `culprit` is looked at first.
-pub(crate) fn is_near(ruler: &Ruler<'_>, i: usize, j: usize, culprit: &mut usize) -> bool
+// Whether each vertex strictly between i and j is within the bound of the segment between these two. The corridor from i stands
+// for the vertices between. Where it is left, the vertex that it names is nearly always too far, so this one is looked at first.
+pub(crate) fn is_near(ruler: &Ruler<'_>, i: usize, j: usize, corridor: &Corridor) -> bool
+    requires coordinates { AreCoordinates ruler.now.xs.now ruler.now.ys.now }
+    requires forwards { i < j }
+    requires in_lists { j < length ruler.now.xs.now }
+    requires corridor { IsCorridor corridor.now ruler.now.xs.now ruler.now.ys.now ruler.now.bound i j }
+    ensures { IsTrue result ↔ IsNearRun ruler.now.xs.now ruler.now.ys.now ruler.now.bound i j }
+{
+    match corridor.culprit(point_at(ruler.xs, ruler.ys, j)) {
+        None => true,
+        Some(culprit) => is_near_with(ruler, i, j, culprit),
+    }
+}
+
+// The same, by the vertex `culprit` and then all others.
+fn is_near_with(ruler: &Ruler<'_>, i: usize, j: usize, culprit: usize) -> bool
     requires coordinates { AreCoordinates ruler.now.xs.now ruler.now.ys.now }
     requires forwards { i < j }
     requires in_lists { j < length ruler.now.xs.now }
     ensures { IsTrue result ↔ IsNearRun ruler.now.xs.now ruler.now.ys.now ruler.now.bound i j }
 {
-    if is_far(ruler, i, j, *culprit) {
-        return false;
-    }
-    match first_far(ruler.xs, ruler.ys, i, j, ruler.bound) {
-        Some(far) => {
-            *culprit = far;
-            false
-        }
-        None => true,
-    }
+    !is_far(ruler, i, j, culprit) && near_run(ruler.xs, ruler.ys, i, j, ruler.bound)
 }
 
 // Whether the vertex k is strictly between i and j and not within the bound of the segment between these two.

@@ -109,8 +109,8 @@ impl Beside {
         }
     }
 
-    // The frame of the chain.
-    fn frame(&self) -> Frame
+    /// The frame of the chain that was loaded.
+    pub fn frame(&self) -> Frame
         ensures { result ≡ self.now.frame }
     {
         self.frame

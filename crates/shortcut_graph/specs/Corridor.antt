@@ -1,0 +1,48 @@
+-- The ways from a vertex of a chain that keep within the bound of each vertex after it.
+use Rattle.std.specs.Prelude.{◌≡◌, true, ℕ, ◌+◌, ℤ, pos, ◌-ℤ◌, ◌≤ℤ◌, ◌<ℤ◌, List}
+use Rattle.grid_exact.specs.Geometry.{Place, turned, area_of, IsWithin}
+use Rattle.lane_kernels.specs.Places.{EachBetween, place_at}
+use Rattle.shortcut_graph.specs.declared.corridor.Heading.{Heading}
+use Rattle.shortcut_graph.specs.declared.corridor.Heading.TheVariants.{East, North, West, South}
+use Rattle.shortcut_graph.specs.declared.corridor.Corridor.{Corridor}
+
+-- the place seen in a mirror that stands upright
+abbrev pub mirrored : Place → Place
+mirrored p = record { x = pos 0 -ℤ p.x; y = p.y }
+
+-- the place as it is seen where the heading is taken for the way across
+abbrev pub seen_along : Heading → Place → Place
+seen_along East p = p
+seen_along North p = turned p
+seen_along West p = mirrored p
+seen_along South p = mirrored (turned p)
+
+-- r is past the origin, and a way that goes no higher than r goes no higher than p and q
+pub record IsLowerLimit (origin p q r : Place) : Type 0 where
+  pub past : origin.x <ℤ r.x
+  pub below : (v : Place) → origin.x ≤ℤ v.x → pos 0 ≤ℤ area_of origin v r → (pos 0 ≤ℤ area_of origin v p) × (pos 0 ≤ℤ area_of origin v q)
+
+-- r is past the origin, and a way that goes no lower than r goes no lower than p and q
+pub record IsUpperLimit (origin p q r : Place) : Type 0 where
+  pub past : origin.x <ℤ r.x
+  pub above : (v : Place) → origin.x ≤ℤ v.x → pos 0 ≤ℤ area_of origin r v → (pos 0 ≤ℤ area_of origin p v) × (pos 0 ≤ℤ area_of origin q v)
+
+-- what the corridor knows is past its origin
+pub record IsPastOrigin (c : Corridor) : Type 0 where
+  pub reach : c.origin.x <ℤ c.reach
+  pub ceiling : c.origin.x <ℤ c.ceiling.place.x
+  pub floor : c.origin.x <ℤ c.floor.place.x
+
+-- the way to v keeps to the corridor: it goes no higher than its ceiling, no lower than its floor, and as far as it reaches
+pub record KeepsTo (c : Corridor) (v : Place) : Type 0 where
+  pub passable : c.is_passable ≡ true
+  pub far : c.reach ≤ℤ v.x
+  pub below : pos 0 ≤ℤ area_of c.origin v c.ceiling.place
+  pub above : pos 0 ≤ℤ area_of c.origin c.floor.place v
+
+-- the corridor from the vertex i stands for the vertices after it and before the vertex j: a way that keeps to it is within the
+-- bound of each
+pub record IsCorridor (c : Corridor) (xs ys : List ℤ) (bound : ℤ) (i j : ℕ) : Type 0 where
+  pub origin : c.origin ≡ seen_along c.heading (place_at xs ys i)
+  pub past : c.is_passable ≡ true → IsPastOrigin c
+  pub near : (v : Place) → KeepsTo c (seen_along c.heading v) → EachBetween (i + 1) j (λ p. IsWithin (place_at xs ys i) v p bound) xs ys
