@@ -62,7 +62,7 @@ record_is_fewest t w more records after n d run within =
 
 -- ---- all of it
 
-arranged_with : (hold : Bool) (m : Map) (held : List ℕ) → AreHeldBeside hold m held → IsMapArranged held m
+pub arranged_with : (hold : Bool) (m : Map) (held : List ℕ) → AreHeldBeside hold m held → IsMapArranged held m
 arranged_with true m held beside = arranged_beside m held beside
 arranged_with false m held beside = subst (λ (arcs : List ℕ). IsMapArranged arcs m) (sym beside.1) beside.0
 

@@ -26,3 +26,6 @@ pub mod RunsLeft
 pub mod ArcsLeft
 pub mod OutcomeFits
 pub mod ReadBack
+pub mod SameLines
+pub mod FacesAlike
+pub mod Judging

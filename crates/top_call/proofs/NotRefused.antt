@@ -24,7 +24,7 @@ use Rattle.top_call.specs.Maps.{HasTopology, NoTree, NoTopology, IsUnarranged, C
 use Rattle.top_call.specs.Answers.{plain}
 use Rattle.top_call.proofs.OneTree.{text_has_one_tree, text_has_one_topology}
 
-nothing_held : (arc : ℕ) → Contains [] arc → ⊥
+pub nothing_held : (arc : ℕ) → Contains [] arc → ⊥
 nothing_held arc h = omega (arith, h.1)
 
 -- an arranged map has no meeting

@@ -11,7 +11,7 @@ use Rattle.top_call.proofs.Promised.{refusal_kind}
 use Rattle.top_call.proofs.OnlyYes.{simplified_checks_yes}
 
 -- what was put out is what a form writes
-written_by : (options : Options) (text : List ℕ) (W : List ℕ → Type 0) (bytes : List ℕ) → IsMapAnswer options text W (done bytes) → W bytes
+pub written_by : (options : Options) (text : List ℕ) (W : List ℕ → Type 0) (bytes : List ℕ) → IsMapAnswer options text W (done bytes) → W bytes
 written_by options text W bytes (Refused s why is) =
     let same : s ≡ Done = sym (ap (λ (a : Answer). a.status) is) in
     absurd (subst IsMapStatus same (refusal_kind options text s why))

@@ -1,7 +1,7 @@
 -- The promises of a run, from its answer.
-use Rattle.std.proofs.Common.{◌≡◌, ◌∙◌, ℕ, ℤ, Bool, List, [], ◌∷◌, length, Option, None, Some, ap, refl, sym, subst, inl, inr, arith}
+use Rattle.std.proofs.Common.{◌≡◌, ◌∙◌, ℕ, ℤ, Bool, List, [], ◌∷◌, Option, None, Some, ap, refl, sym, subst, inl, inr, arith}
 use Rattle.std.proofs.lemmas.List.{append_cancel_left}
-use Rattle.std.specs.Prelude.{◌≢◌, ◌⊎◌, ◌≤◌, IsTrue}
+use Rattle.std.specs.Prelude.{◌≢◌, ◌⊎◌, IsTrue}
 use Rattle.std.proofs.lemmas.Option.{none-some, same_Some}
 use Rattle.outside_io.specs.Texts.{Texts, text_of}
 use Rattle.json_scan.specs.declared.walk.ScanError.{ScanError}
@@ -15,7 +15,7 @@ use Rattle.top_call.specs.declared.status.Role.TheVariants.{File}
 use Rattle.top_call.specs.declared.status.Status.{Status}
 use Rattle.top_call.specs.declared.status.Status.TheVariants.{Done, No, Usage, NotUtf8, NotJson, NotTopology, OffProfile, TooLarge, NotArranged, ReadFault, WriteFault, NoMemory, OffWeights}
 use Rattle.top_call.specs.Words.{Form, Simplify, Layers, Check, Faces, Make, Demo, form_of}
-use Rattle.top_call.specs.Reading.{Read, Named, named, limit_of, AreRead, IsFirstPast, IsPast, IsFirstUnheld}
+use Rattle.top_call.specs.Reading.{Read, Named, named, AreRead, IsWithin, IsPast, IsFirstPast, IsFirstUnheld}
 use Rattle.top_call.specs.Maps.{IsLoaded, NoTree, NoTopology, Clash, OnArc, IsRefusal, NoMap, OffGrid, Unarranged, scan_status, fault_status}
 use Rattle.top_call.specs.Answers.{Answer, plain, IsSimplified, IsCertified, IsFaced, IsMapAnswer, Refused, Written, IsWorkAnswer, IsFormAnswer, NotHeld, TooLong, Worked, IsAnswerBy, IsAnswer}
 use Rattle.top_call.specs.Endings.{IsMapStatus, IsWritten, IsWorkStatus, Wrote, Settles}
@@ -26,7 +26,7 @@ use Rattle.top_call.proofs.NotRefused.{loaded_not_refused}
 -- ---- answers that are known
 
 -- memory was wanting, or the run ended as its answer says
-answered : (IsIt : Answer → Type 0) (tells : Bool) (before now : List ℕ) (s : Status) → s ≢ ReadFault → s ≢ WriteFault → Settles IsIt tells before now s → (s ≡ NoMemory) ⊎ ((a : Answer) × IsIt a × (s ≡ a.status) × Wrote tells before now a.bytes)
+pub answered : (IsIt : Answer → Type 0) (tells : Bool) (before now : List ℕ) (s : Status) → s ≢ ReadFault → s ≢ WriteFault → Settles IsIt tells before now s → (s ≡ NoMemory) ⊎ ((a : Answer) × IsIt a × (s ≡ a.status) × Wrote tells before now a.bytes)
 answered IsIt tells before now Done read write h = inr h
 answered IsIt tells before now (No r) read write h = inr h
 answered IsIt tells before now Usage read write h = inr h
@@ -87,15 +87,29 @@ headline words texts tells before now s settled told options bound file text byt
 
 -- ---- which texts are worked on
 
-not_unheld : (texts : Texts) (file text : List ℕ) → text_of texts file ≡ Some text → IsFirstUnheld texts ((File, file) ∷ []) → ⊥
-not_unheld texts file text is (inl none) = none-some text (sym none ∙ is)
-not_unheld texts file text is (inr later) = later.1
+-- a text is held under each name, and is no longer than its role allows
+abbrev pub AreWithin : Texts → List Named → Type 0
+AreWithin texts [] = Unit {0}
+AreWithin texts (n ∷ ns) = IsWithin n.0 (text_of texts n.1) × AreWithin texts ns
 
-not_past : (texts : Texts) (file text : List ℕ) (role : Role) → text_of texts file ≡ Some text → length text ≤ limit_of File → IsFirstPast texts ((File, file) ∷ []) role → ⊥
-not_past texts file text role is short (inl past) =
-    let long = subst (IsPast File) is past.1 in
-    omega (arith, short, long)
-not_past texts file text role is short (inr later) = later.1
+pub file_within : (options : Options) (texts : Texts) (file : List ℕ) → IsReady options texts file → IsWithin File (text_of texts file)
+file_within options texts file ready = subst (IsWithin File) (sym ready.is_held) ready.short
+
+-- then none is missing
+pub none_unheld : (texts : Texts) (names : List Named) → AreWithin texts names → IsFirstUnheld texts names → ⊥
+none_unheld texts [] within unheld = unheld
+none_unheld texts (n ∷ ns) within (inl none) = subst (IsWithin n.0) none within.0
+none_unheld texts (n ∷ ns) within (inr later) = none_unheld texts ns within.1 later.1
+
+within_not_past : (role : Role) (text : Option (List ℕ)) → IsWithin role text → IsPast role text → ⊥
+within_not_past role None within past = past
+within_not_past role (Some bytes) within past = omega (arith, within, past)
+
+-- and none is too long
+pub none_past : (texts : Texts) (names : List Named) (role : Role) → AreWithin texts names → IsFirstPast texts names role → ⊥
+none_past texts [] role within past = past
+none_past texts (n ∷ ns) role within (inl past) = within_not_past n.0 (text_of texts n.1) within.0 past.1
+none_past texts (n ∷ ns) role within (inr later) = none_past texts ns role within.1 later.1
 
 map_done : (options : Options) (text : List ℕ) (W : List ℕ → Type 0) (t : TopologyRead) (held : List ℕ) (a : Answer) → IsLoaded options text t held → IsMapAnswer options text W a → a.status ≡ Done
 map_done options text W t held a loaded (Refused s why e) = absurd (loaded_not_refused options text t held s loaded why)
@@ -104,9 +118,9 @@ map_done options text W t held a loaded (Written bytes is e) = ap (λ (b : Answe
 -- the answer of a form that works on the map of FILE alone
 ready_answer : (options : Options) (file : List ℕ) (W : List ℕ → List ℕ → Type 0) (f : Form) (texts : Texts) (a : Answer) → named f ≡ (File, file) ∷ [] → ((read : Read) → IsWorkAnswer f read a → IsMapAnswer options read.file (W read.file) a) → IsReady options texts file → IsFormAnswer f texts a → a.status ≡ Done
 ready_answer options file W f texts a names works ready (NotHeld none e) =
-    absurd (not_unheld texts file ready.text ready.is_held (subst (λ (ns : List Named). IsFirstUnheld texts ns) names none))
+    absurd (none_unheld texts ((File, file) ∷ []) (file_within options texts file ready, tt) (subst (λ (ns : List Named). IsFirstUnheld texts ns) names none))
 ready_answer options file W f texts a names works ready (TooLong role past e) =
-    absurd (not_past texts file ready.text role ready.is_held ready.short (subst (λ (ns : List Named). IsFirstPast texts ns role) names past))
+    absurd (none_past texts ((File, file) ∷ []) role (file_within options texts file ready, tt) (subst (λ (ns : List Named). IsFirstPast texts ns role) names past))
 ready_answer options file W f texts a names works ready (Worked read are short work) =
     let here = subst (λ (ns : List Named). AreRead texts ns read) names are in
     let same = same_Some ready.text read.file (sym ready.is_held ∙ here.0) in

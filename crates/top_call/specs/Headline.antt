@@ -1,5 +1,5 @@
--- What is promised of a run: the text that `simplify` writes is faithful to the one that it was given, a text that loads is worked on, and
--- `make` and `demo` refuse nothing.
+-- What is promised of a run: the text that `simplify` writes is faithful to the one that it was given, a text that loads is worked on, what
+-- was written for it is judged, and `make` and `demo` refuse nothing.
 use Rattle.std.specs.Prelude.{◌≡◌, ◌⊎◌, ◌-◌, ◌<◌, ◌≤◌, ℕ, ℤ, List, ◌++◌, length, take, get_or, Some}
 use Rattle.grid_exact.specs.Paths.{Certifies}
 use Rattle.arc_map.specs.Map.{Map}
@@ -10,12 +10,13 @@ use Rattle.topo_reader.specs.Reads.{TopologyRead}
 use Rattle.chain_replace.specs.Laws.{KeepsFaces}
 use Rattle.chain_replace.specs.Run.{Terms, IsAllowedIn, last_of, IsRecordOf, AreReplaced, IsOutcome}
 use Rattle.chain_replace.specs.Thinned.{ThinsArcs}
+use Rattle.cert_checker.specs.declared.verdicts.Reason.{Reason}
 use Rattle.top_call.specs.declared.forms.Options.{Options}
-use Rattle.top_call.specs.declared.status.Role.TheVariants.{File}
+use Rattle.top_call.specs.declared.status.Role.TheVariants.{File, Out, Cert}
 use Rattle.top_call.specs.declared.status.Status.{Status}
-use Rattle.top_call.specs.declared.status.Status.TheVariants.{Done, WriteFault, NoMemory}
-use Rattle.top_call.specs.Words.{Form, Simplify, Layers, Faces, Make, Demo, form_of}
-use Rattle.top_call.specs.Reading.{limit_of}
+use Rattle.top_call.specs.declared.status.Status.TheVariants.{Done, No, WriteFault, NoMemory}
+use Rattle.top_call.specs.Words.{Form, Simplify, Layers, Check, Faces, Make, Demo, form_of}
+use Rattle.top_call.specs.Reading.{limit_of, IsWithin}
 use Rattle.top_call.specs.Maps.{IsLoaded}
 use Rattle.top_call.specs.Answers.{plain, terms_of, text_with}
 
@@ -48,7 +49,7 @@ pub record IsFaithful (options : Options) (bound : ℤ) (text bytes : List ℕ) 
   -- it is arranged beside the held arcs, from each feature point each arc is crossed with the same parity, and each feature point is in
   -- the same polygons
   pub faces : KeepsFaces held topology.map after
-  -- no chain could have fewer vertices when its turn came
+  -- what is left of each chain is a path of pairs that were allowed when its turn came, and no such path has fewer vertices
   pub fewest : (n : ℕ) (d : Record) → n < length records → IsFewest (terms_of options bound held) (work_of topology.map run.refs) records n (get_or records n d)
 
 -- What `simplify` writes of a text that is held, where it is done, is faithful to the text.
@@ -77,6 +78,22 @@ CanWork f texts = ⊥
 -- where FILE is ready, its work is done, or memory was wanting
 abbrev pub Completes : List (List ℕ) → Texts → Status → Type 0
 Completes words texts result = (f : Form) → form_of words ≡ Some f → CanWork f texts → (result ≡ Done) ⊎ (result ≡ NoMemory)
+
+-- ---- which texts are judged
+
+-- FILE is ready, and OUT and CERT are held and are no longer than they may be
+pub record CanJudge (options : Options) (texts : Texts) (file out cert : List ℕ) : Type 0 where
+  pub ready : IsReady options texts file
+  pub out_within : IsWithin Out (text_of texts out)
+  pub cert_within : IsWithin Cert (text_of texts cert)
+
+-- the verdict is yes, or it is no for a reason, or memory was wanting
+abbrev pub IsJudgingStatus : Status → Type 0
+IsJudgingStatus s = (s ≡ Done) ⊎ (((reason : Reason) × (s ≡ No reason)) ⊎ (s ≡ NoMemory))
+
+-- where FILE is ready, and OUT and CERT are held and short enough, `check` ends in no other way
+abbrev pub Judges : List (List ℕ) → Texts → Status → Type 0
+Judges words texts result = (options : Options) (bound : ℤ) (file out cert : List ℕ) → form_of words ≡ Some (Check options bound file out cert) → CanJudge options texts file out cert → IsJudgingStatus result
 
 -- ---- the forms that make a coverage
 

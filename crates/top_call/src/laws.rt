@@ -1,5 +1,5 @@
 //! Laws of the command over the definitions alone, each as the contract of a function that does nothing.
-ghost use Rattle.top_call.specs.Laws.{CheckAnswersYes, RecordsAreJudgedYes, SimplifiedChecksYes, SimplifiedReadsBack};
+ghost use Rattle.top_call.specs.Laws.{CheckAnswersYes, FacesAnswersAlike, OutcomeKeepsLines, RecordsAreJudgedYes, SimplifiedChecksYes, SimplifiedKeepsLines, SimplifiedReadsBack};
 
 /// The records of a run pass each test of the judge, and the judged map is the outcome of the run.
 pub fn records_are_judged_yes()
@@ -22,4 +22,23 @@ pub fn check_answers_yes()
 /// the polygons and the coding of the map of that text.
 pub fn simplified_reads_back()
     ensures { SimplifiedReadsBack }
+{}
+
+/// The lines of `faces` for the outcome of a run are those for the map of the run, where this map is arranged beside the held
+/// arcs: each feature point has the same number and the same place, and lies in the same polygons.
+pub fn outcome_keeps_lines()
+    ensures { OutcomeKeepsLines }
+{}
+
+/// The map of what `simplify` writes of a text has the lines of `faces` of the map of that text, whatever the options and the bound:
+/// with `--hold` too, though `faces` itself refuses a map that is not arranged.
+pub fn simplified_keeps_lines()
+    ensures { SimplifiedKeepsLines }
+{}
+
+/// Where OUT is what `simplify` answers to FILE, `faces` answers FILE and OUT alike: the lines that it answers to FILE are its one
+/// answer to FILE, and its one answer to OUT. Without `--hold` it does answer FILE with lines. This is said of an OUT that `faces`
+/// reads, of at most 2^26 bytes.
+pub fn faces_answers_alike()
+    ensures { FacesAnswersAlike }
 {}

@@ -19,7 +19,8 @@ mod words;
 
 pub use forms::{Options, Request};
 pub use laws::{
-    check_answers_yes, records_are_judged_yes, simplified_checks_yes, simplified_reads_back,
+    check_answers_yes, faces_answers_alike, outcome_keeps_lines, records_are_judged_yes,
+    simplified_checks_yes, simplified_keeps_lines, simplified_reads_back,
 };
 pub use running::run;
 pub use status::{Limit, Meeting, Role, Status};

@@ -9,7 +9,7 @@ ghost use Rattle.top_call.specs.Messages.{message_of};
 ghost use Rattle.top_call.specs.Verdicts.{verdict_line};
 ghost use Rattle.top_call.specs.Answers.{verdict_status, IsWorkAnswer, IsFormAnswer, IsAnswer};
 ghost use Rattle.top_call.specs.Endings.{IsMapStatus, IsWritten, IsWorkStatus, IsSilent, ReadsTexts, names_of, Replies, Settles, Notes};
-ghost use Rattle.top_call.specs.Headline.{Headline, Completes, IsMaking, IsMakingStatus, Makes};
+ghost use Rattle.top_call.specs.Headline.{Headline, Completes, Judges, IsMaking, IsMakingStatus, Makes};
 
 use crate::checking::verdict_on;
 use crate::demo::{coverage, demo};
@@ -186,8 +186,9 @@ fn tell_end<N: Sink>(note: &mut N, status: &Status)
 ///
 /// What `simplify` writes is faithful to the text: each byte stands but those of the value of `arcs`. Each arc there has
 /// some of its positions, both ends of each chain among them, and each that is skipped is within the bound of the edge
-/// that skips it; held arcs are unchanged. The map is arranged beside the held arcs, each feature point is in the same
-/// polygons, and no chain could have fewer vertices when its turn came.
+/// that skips it; held arcs are unchanged. The map is arranged beside the held arcs, and each feature point is in the same
+/// polygons. What is left of each chain is a path of allowed pairs in the map as the chains before it left it, and no such
+/// path has fewer vertices.
 pub fn run<I: Inputs, O: Sink, N: Sink>(
     alloc: Global,
     words: &[String],
@@ -228,6 +229,10 @@ pub fn run<I: Inputs, O: Sink, N: Sink>(
     // Where FILE is held, short and loads, and no call failed, the work is done, or memory was wanting.
     ensures complete { IsTrue I.tells → ¬ (Rose (I.faults inputs.old) (I.faults inputs.new)) → ¬ (Rose (O.faults out.old) (O.faults out.new))
         → Completes (bytes_of words.now) (I.texts inputs.old) result }
+
+    // Where besides OUT and CERT are held and short, `check` says yes or why not, or memory was wanting.
+    ensures judges { IsTrue I.tells → ¬ (Rose (I.faults inputs.old) (I.faults inputs.new)) → ¬ (Rose (O.faults out.old) (O.faults out.new))
+        → Judges (bytes_of words.now) (I.texts inputs.old) result }
 
     // A coverage is made and thinned, or a write failed, or memory was wanting.
     ensures made { Makes (bytes_of words.now) result }
