@@ -77,7 +77,7 @@ fn reads_two_provinces(rt: HostRuntime) {
 }
 
 #[test]
-fn names_the_first_shape_fault(rt: HostRuntime) {
+fn names_the_first_fault_of_a_topology(rt: HostRuntime) {
     for (text, kind, at) in [
         (r#" []"#, ShapeKind::NotObject, 1),
         (r#"{"objects":{},"arcs":[]}"#, ShapeKind::Missing, 0),
@@ -98,6 +98,30 @@ fn names_the_first_shape_fault(rt: HostRuntime) {
             ShapeKind::WrongType,
             8,
         ),
+        (
+            r#"{"type":"Topology","transform":{"scale":[1,1]},"objects":{},"arcs":[]}"#,
+            ShapeKind::BadTransform,
+            31,
+        ),
+        (
+            r#"{"type":"Topology","transform":{"scale":[1,1],"scale":[1,1],"translate":[0,0]},"objects":{},"arcs":[]}"#,
+            ShapeKind::BadTransform,
+            31,
+        ),
+        (
+            r#"{"type":"Topology","transform":{"scale":[1,1],"translate":[0,0,0]},"objects":{},"arcs":[]}"#,
+            ShapeKind::BadTransform,
+            31,
+        ),
+    ] {
+        let want = Some(ReadFault::Shape { kind, at });
+        assert_eq!(&rt; fault_of(rt.alloc(), text), want, "of {text}");
+    }
+}
+
+#[test]
+fn names_the_first_fault_of_arcs(rt: HostRuntime) {
+    for (text, kind, at) in [
         (
             r#"{"type":"Topology","objects":{},"arcs":{}}"#,
             ShapeKind::WrongType,
@@ -124,44 +148,23 @@ fn names_the_first_shape_fault(rt: HostRuntime) {
             44,
         ),
         (
-            r#"{"type":"Topology","objects":[],"arcs":[]}"#,
-            ShapeKind::WrongType,
-            29,
-        ),
-        (
-            r#"{"type":"Topology","objects":{"a":[]},"arcs":[[[0,0],[3,0]]]}"#,
-            ShapeKind::WrongType,
-            34,
-        ),
-        (
-            r#"{"type":"Topology","objects":{"a":{"type":"MultiPolygon","arcs":[7]}},"arcs":[[[0,0],[3,0]]]}"#,
-            ShapeKind::WrongType,
-            65,
-        ),
-        (
-            r#"{"type":"Topology","objects":{"a":{"type":"LineString","arcs":[null]}},"arcs":[[[0,0],[3,0]]]}"#,
-            ShapeKind::WrongType,
-            63,
-        ),
-        (
             r#"{"type":"Topology","objects":{},"arcs":[[[0,0]]]}"#,
             ShapeKind::ShortArc,
             40,
         ),
+    ] {
+        let want = Some(ReadFault::Shape { kind, at });
+        assert_eq!(&rt; fault_of(rt.alloc(), text), want, "of {text}");
+    }
+}
+
+#[test]
+fn names_the_first_fault_of_lines(rt: HostRuntime) {
+    for (text, kind, at) in [
         (
-            r#"{"type":"Topology","transform":{"scale":[1,1]},"objects":{},"arcs":[]}"#,
-            ShapeKind::BadTransform,
-            31,
-        ),
-        (
-            r#"{"type":"Topology","transform":{"scale":[1,1],"scale":[1,1],"translate":[0,0]},"objects":{},"arcs":[]}"#,
-            ShapeKind::BadTransform,
-            31,
-        ),
-        (
-            r#"{"type":"Topology","transform":{"scale":[1,1],"translate":[0,0,0]},"objects":{},"arcs":[]}"#,
-            ShapeKind::BadTransform,
-            31,
+            r#"{"type":"Topology","objects":{"a":{"type":"LineString","arcs":[null]}},"arcs":[[[0,0],[3,0]]]}"#,
+            ShapeKind::WrongType,
+            63,
         ),
         (
             r#"{"type":"Topology","objects":{"a":{"type":"LineString","arcs":[1]}},"arcs":[[[0,0],[3,0]]]}"#,
@@ -181,6 +184,30 @@ fn names_the_first_shape_fault(rt: HostRuntime) {
         (
             r#"{"type":"Topology","objects":{"a":{"type":"LineString","arcs":[0,-2]}},"arcs":[[[0,0],[3,0]],[[3,0],[3,3]]]}"#,
             ShapeKind::Unjoined,
+            65,
+        ),
+    ] {
+        let want = Some(ReadFault::Shape { kind, at });
+        assert_eq!(&rt; fault_of(rt.alloc(), text), want, "of {text}");
+    }
+}
+
+#[test]
+fn names_the_first_fault_of_objects(rt: HostRuntime) {
+    for (text, kind, at) in [
+        (
+            r#"{"type":"Topology","objects":[],"arcs":[]}"#,
+            ShapeKind::WrongType,
+            29,
+        ),
+        (
+            r#"{"type":"Topology","objects":{"a":[]},"arcs":[[[0,0],[3,0]]]}"#,
+            ShapeKind::WrongType,
+            34,
+        ),
+        (
+            r#"{"type":"Topology","objects":{"a":{"type":"MultiPolygon","arcs":[7]}},"arcs":[[[0,0],[3,0]]]}"#,
+            ShapeKind::WrongType,
             65,
         ),
         (
