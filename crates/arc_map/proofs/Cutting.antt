@@ -1,6 +1,6 @@
 -- What holds of the chains into which the arcs of a map are cut: each runs one way, each begins where the one before
 -- it in its arc ends, and they are no more than there are positions.
-use Rattle.std.proofs.Common.{◌≡◌, ◌≢◌, ◌∙◌, ℕ, suc, ◌<◌, ◌≤◌, List, [], ◌∷◌, ◌++◌, AllPairs, length, sum_by, refl, sym, ap, subst, arith, length-append}
+use Rattle.std.proofs.Common.{◌≡◌, ◌≢◌, ◌∙◌, ℕ, suc, ◌<◌, ◌≤◌, List, [], ◌∷◌, ◌++◌, AllPairs, length, get_or, sum_by, refl, sym, ap, subst, arith, length-append}
 use Rattle.std.specs.List.{AllByRecursion}
 use Rattle.std.proofs.lemmas.List.Elements.{All-from_recursion}
 use Rattle.std.proofs.lemmas.List.Kept.{AllPairs-cons}
@@ -47,7 +47,7 @@ runs_of_arcs arc [] ks cut = rw cut tt
 runs_of_arcs arc (ps ∷ pss) ks cut =
     rw cut.2 (append_all IsRun cut.0 cut.1 (runs_of_list (vertices_from arc 0 ps) cut.0 cut.3) (runs_of_arcs (suc arc) pss cut.1 cut.4))
 
--- ---- no two places of a run are one
+-- ---- the places of a run, two by two
 
 before_in : (frame : Frame) (a b c : Place) → IsBeforeIn frame a b → IsBeforeIn frame b c → IsBeforeIn frame a c
 before_in Plain a b c = then_before a b c
@@ -57,29 +57,36 @@ not_itself : (frame : Frame) (a b : Place) → IsBeforeIn frame a b → a ≢ b
 not_itself Plain a b before same = not_before_itself a b same before
 not_itself Turned a b before same = not_before_itself (turned a) (turned b) (ap turned same) before
 
-all_after : (frame : Frame) (a v : Place) (ws : List Place) → IsBeforeIn frame a v → EachEdge (λ p q. IsBeforeIn frame p q) v ws → AllByRecursion (λ q. a ≢ q) (v ∷ ws)
-all_after frame a v [] before edges = (not_itself frame a v before, tt)
-all_after frame a v (w ∷ ws) before edges =
-    (not_itself frame a v before, all_after frame a w ws (before_in frame a v w before edges.0) edges.1)
+-- of the places, each is before each later one, or behind it
+pub data RunsOneWay (frame : Frame) (ps : List Place) : Type 0 where
+  Rises : AllPairs (λ p q. IsBeforeIn frame p q) ps → RunsOneWay frame ps
+  Falls : AllPairs (λ p q. IsBeforeIn frame q p) ps → RunsOneWay frame ps
 
-all_before : (frame : Frame) (a v : Place) (ws : List Place) → IsBeforeIn frame v a → EachEdge (λ p q. IsBeforeIn frame q p) v ws → AllByRecursion (λ q. a ≢ q) (v ∷ ws)
-all_before frame a v [] before edges = (λ same. not_itself frame v a before (sym same), tt)
-all_before frame a v (w ∷ ws) before edges =
-    (λ same. not_itself frame v a before (sym same), all_before frame a w ws (before_in frame w v a edges.0 before) edges.1)
+-- the edges of a walk have a relation that goes on: so do any two of its places
+pairs_of_edges : {X : Type 0} (R : X → X → Type 0) → ((a b c : X) → R a b → R b c → R a c) → (v : X) (ws : List X) → EachEdge R v ws → AllPairs R (v ∷ ws)
+pairs_of_edges R goes_on v [] edges = λ i j d before below. absurd (omega arith)
+pairs_of_edges {X = X} R goes_on v (w ∷ ws) edges =
+    AllPairs-cons R v (w ∷ ws) (All-from_recursion (R v) (w ∷ ws) (behind v w ws edges.0 edges.1)) (pairs_of_edges R goes_on w ws edges.1)
+  where
+    behind : (a v : X) (ws : List X) → R a v → EachEdge R v ws → AllByRecursion (R a) (v ∷ ws)
+    behind a v [] first edges = (first, tt)
+    behind a v (w ∷ ws) first edges = (first, behind a w ws (goes_on a v w first edges.0) edges.1)
 
-distinct_up : (frame : Frame) (v : Place) (ws : List Place) → EachEdge (λ p q. IsBeforeIn frame p q) v ws → AllPairs (λ p q. p ≢ q) (v ∷ ws)
-distinct_up frame v [] edges = AllPairs-cons (λ p q. p ≢ q) v [] (All-from_recursion (λ q. v ≢ q) [] tt) (λ i j d before below. absurd (omega arith))
-distinct_up frame v (w ∷ ws) edges =
-    AllPairs-cons (λ p q. p ≢ q) v (w ∷ ws) (All-from_recursion (λ q. v ≢ q) (w ∷ ws) (all_after frame v w ws edges.0 edges.1)) (distinct_up frame w ws edges.1)
+edges_of_pairs : {X : Type 0} (R : X → X → Type 0) (v : X) (ws : List X) → AllPairs R (v ∷ ws) → EachEdge R v ws
+edges_of_pairs R v [] pairs = tt
+edges_of_pairs R v (w ∷ ws) pairs = (pairs 0 1 v (omega arith) (omega arith), edges_of_pairs R w ws (λ i j d before below. pairs (suc i) (suc j) d (omega arith) (omega arith)))
 
-distinct_down : (frame : Frame) (v : Place) (ws : List Place) → EachEdge (λ p q. IsBeforeIn frame q p) v ws → AllPairs (λ p q. p ≢ q) (v ∷ ws)
-distinct_down frame v [] edges = AllPairs-cons (λ p q. p ≢ q) v [] (All-from_recursion (λ q. v ≢ q) [] tt) (λ i j d before below. absurd (omega arith))
-distinct_down frame v (w ∷ ws) edges =
-    AllPairs-cons (λ p q. p ≢ q) v (w ∷ ws) (All-from_recursion (λ q. v ≢ q) (w ∷ ws) (all_before frame v w ws edges.0 edges.1)) (distinct_down frame w ws edges.1)
+pub pairs_of_run : (frame : Frame) (v : Place) (ws : List Place) → IsMonotone frame v ws → RunsOneWay frame (v ∷ ws)
+pairs_of_run frame v ws (Increasing edges) = Rises (pairs_of_edges (λ p q. IsBeforeIn frame p q) (before_in frame) v ws edges)
+pairs_of_run frame v ws (Decreasing edges) = Falls (pairs_of_edges (λ p q. IsBeforeIn frame q p) (λ a b c first second. before_in frame c b a second first) v ws edges)
 
-pub distinct_places : (frame : Frame) (v : Place) (ws : List Place) → IsMonotone frame v ws → AllPairs (λ p q. p ≢ q) (v ∷ ws)
-distinct_places frame v ws (Increasing edges) = distinct_up frame v ws edges
-distinct_places frame v ws (Decreasing edges) = distinct_down frame v ws edges
+pub run_of_pairs : (frame : Frame) (v : Place) (ws : List Place) → RunsOneWay frame (v ∷ ws) → IsMonotone frame v ws
+run_of_pairs frame v ws (Rises pairs) = Increasing (edges_of_pairs (λ p q. IsBeforeIn frame p q) v ws pairs)
+run_of_pairs frame v ws (Falls pairs) = Decreasing (edges_of_pairs (λ p q. IsBeforeIn frame q p) v ws pairs)
+
+pub distinct_places : (frame : Frame) (ps : List Place) → RunsOneWay frame ps → AllPairs (λ p q. p ≢ q) ps
+distinct_places frame ps (Rises pairs) i j d before below = not_itself frame (get_or ps i d) (get_or ps j d) (pairs i j d before below)
+distinct_places frame ps (Falls pairs) i j d before below = λ same. not_itself frame (get_or ps j d) (get_or ps i d) (pairs i j d before below) (sym same)
 
 -- ---- how many chains there are
 
@@ -147,7 +154,7 @@ pub arcs_of_list : (arc : ℕ) (vs : List Vertex) (ks : List Chain) → IsListCu
 arcs_of_list arc [] ks cut all = rw cut tt
 arcs_of_list arc (v ∷ vs) ks cut all = arcs_of_walk arc v vs ks cut all.0 all.1
 
-weaken_all : {X : Type 0} (P Q : X → Type 0) → ((x : X) → P x → Q x) → (xs : List X) → AllByRecursion P xs → AllByRecursion Q xs
+pub weaken_all : {X : Type 0} (P Q : X → Type 0) → ((x : X) → P x → Q x) → (xs : List X) → AllByRecursion P xs → AllByRecursion Q xs
 weaken_all P Q imply [] all = tt
 weaken_all P Q imply (x ∷ xs) all = (imply x all.0, weaken_all P Q imply xs all.1)
 
@@ -180,3 +187,22 @@ pub linked_of_arcs : (arc : ℕ) (pss : List (List Place)) (ks : List Chain) →
 linked_of_arcs arc [] ks cut = rw cut tt
 linked_of_arcs arc (ps ∷ pss) ks cut =
     rw cut.2 (linked_arcs arc cut.0 cut.1 (linked_list (vertices_from arc 0 ps) cut.0 cut.3) (linked_of_arcs (suc arc) pss cut.1 cut.4) (arcs_of_list arc (vertices_from arc 0 ps) cut.0 cut.3 (vertices_in_arc arc 0 ps)) (later_arcs (suc arc) pss cut.1 cut.4))
+
+-- ---- the chains stand in order of their arcs
+
+-- no chain is of an arc before that of the chain in front of it
+abbrev pub AreByArc : List Chain → Type 0
+AreByArc [] = Unit {0}
+AreByArc (k ∷ []) = Unit {0}
+AreByArc (k ∷ l ∷ ks) = (k.first.arc ≤ l.first.arc) × AreByArc (l ∷ ks)
+
+by_arc : (arc : ℕ) (ks ls : List Chain) → AllByRecursion (λ k. k.first.arc ≡ arc) ks → AllByRecursion (λ k. suc arc ≤ k.first.arc) ls → AreByArc ls → AreByArc (ks ++ ls)
+by_arc arc [] ls here behind later = later
+by_arc arc (k ∷ []) [] here behind later = tt
+by_arc arc (k ∷ []) (l ∷ ls) here behind later = (omega (arith, here.0, behind.0), later)
+by_arc arc (k ∷ k' ∷ ks) ls here behind later = (omega (arith, here.0, here.1.0), by_arc arc (k' ∷ ks) ls here.1 behind later)
+
+pub by_arc_of_arcs : (arc : ℕ) (pss : List (List Place)) (ks : List Chain) → AreChainsOf arc pss ks → AreByArc ks
+by_arc_of_arcs arc [] ks cut = rw cut tt
+by_arc_of_arcs arc (ps ∷ pss) ks cut =
+    rw cut.2 (by_arc arc cut.0 cut.1 (arcs_of_list arc (vertices_from arc 0 ps) cut.0 cut.3 (vertices_in_arc arc 0 ps)) (later_arcs (suc arc) pss cut.1 cut.4) (by_arc_of_arcs (suc arc) pss cut.1 cut.4))

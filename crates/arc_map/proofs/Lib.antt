@@ -2,10 +2,11 @@ pub mod Elements
 pub mod Flat
 pub mod Rising
 pub mod Keeping
+pub mod Cutting
 pub mod Thinning
 pub mod Alive
-pub mod Cutting
 pub mod Reading
+pub mod Chained
 pub mod Listing
 pub mod Ending
 pub mod Rejoining

@@ -1,5 +1,5 @@
 -- The chains of a map as they are read into memory.
-use Rattle.std.proofs.Common.{◌≡◌, ◌∙◌, ℕ, zero, suc, ◌+◌, ◌-◌, ◌<◌, List, [], ◌∷◌, ◌++◌, All, map, length, get_or, slice_range, take, drop, refl, sym, ap, arith, length-drop}
+use Rattle.std.proofs.Common.{◌≡◌, ◌∙◌, ℕ, zero, suc, ◌+◌, ◌-◌, ◌<◌, ◌≤◌, List, [], ◌∷◌, ◌++◌, All, map, length, get_or, slice_range, take, drop, refl, sym, ap, subst, arith, length-drop}
 use Rattle.std.specs.List.{AllByRecursion, AllZip, AllAdjacentBelow, range_with_len}
 use Rattle.std.proofs.lemmas.List.{ext_get_or, get_or-take, get_or-drop, get_or-map, length-map, length-take-le}
 use Rattle.std.proofs.lemmas.List.FromFn.{length-range_with_len, get_or-range_with_len}
@@ -11,10 +11,14 @@ use Rattle.arc_map.specs.Vertices.{Vertex, places}
 use Rattle.arc_map.specs.Chains.{chain_places}
 use Rattle.arc_map.specs.Arranged.{arc_at, position_at, nowhere}
 use Rattle.arc_map.specs.Work.{vertex_in, chain_in, LiesInArc}
-use Rattle.arc_map.specs.Live.{live_chain, IsLive, IsRead, SpansChain, AreJoined}
+use Rattle.arc_map.specs.Live.{live_chain, IsLive, IsRead, SpansChain, AreJoined, AreInOrder}
 use Rattle.arc_map.specs.declared.refs.ChainRef.{ChainRef}
 use Rattle.arc_map.specs.declared.work.LiveChain.{LiveChain}
-use Rattle.arc_map.proofs.Cutting.{IsRun, AreLinked, distinct_places}
+use Rattle.std.proofs.lemmas.List.Elements.{All-from_recursion}
+use Rattle.std.proofs.lemmas.List.Kept.{AllPairs-cons}
+use Rattle.grid_exact.specs.Runs.{IsMonotone}
+use Rattle.arc_map.specs.Chains.{Chain}
+use Rattle.arc_map.proofs.Cutting.{IsRun, AreLinked, AreByArc, distinct_places, pairs_of_run, weaken_all}
 
 -- the numbers of a chain as read
 abbrev numbers_of : ChainRef → List ℕ
@@ -68,13 +72,14 @@ places_of_chain_in m r edge =
 pub live_read : (m : Map) (r : ChainRef) (c : LiveChain) → LiesInArc m r → IsRun (chain_in m r) → IsRead m r c → IsLive m c
 live_read m r c lies run read =
     let positions = read.vertices ∙ positions_read m r lies in
-    let distinct = distinct_places r.frame (chain_in m r).first.place (places (chain_in m r).rest) run.one_way in
+    let distinct = distinct_places r.frame (chain_places (chain_in m r)) (pairs_of_run r.frame (chain_in m r).first.place (places (chain_in m r).rest) run.one_way) in
     record {
       lies = rw read.place lies;
       spans = rw (read.place, read.numbers) (spans_read r lies.edge);
       short = rw read.numbers (omega (arith, numbers_count r, run.short, length-map (range_with_len (r.«from» + 1) (r.to - r.«from»)) (vertex_in m r.arc), length-range_with_len (r.«from» + 1) (r.to - r.«from»)));
       positions = rw (read.place, read.numbers) positions;
       distinct = rw (positions ∙ sym (places_of_chain_in m r lies.edge)) distinct;
+      one_way = subst (λ (k : Chain). IsMonotone k.frame k.first.place (places k.rest)) (sym (chain_read m r c lies read)) run.one_way;
     }
 
 -- ---- all chains
@@ -115,15 +120,54 @@ adjacent-cons : {X : Type 0} (R : X → X → Type 0) (x y : X) (ys : List X) �
 adjacent-cons R x y ys first rest zero d below = first
 adjacent-cons R x y ys first rest (suc k) d below = let next : suc k + 1 ≡ suc (k + 1) = omega arith in rw next (rest k d (omega arith))
 
+next_begins : (m : Map) (r s : ChainRef) → LiesInArc m r → end_of (chain_in m r).first (chain_in m r).rest ≡ (chain_in m s).first → r.to ≡ s.«from»
+next_begins m r s lies linked =
+    let last = end_of_run m r.arc r.«from» (r.to - r.«from») in
+    let at = ap (λ (v : Vertex). v.at) (sym last ∙ linked) in
+    let edge = lies.edge in
+    omega arith
+
 pub joined_refs : (m : Map) (refs : List ChainRef) → All (LiesInArc m) refs → AreLinked (map (chain_in m) refs) → AreJoined refs
 joined_refs m [] lie linked = λ k d below. absurd (omega arith)
 joined_refs m (r ∷ []) lie linked = λ k d below. absurd (omega arith)
 joined_refs m (r ∷ s ∷ rs) lie linked =
     let here = All-head (LiesInArc m) r (s ∷ rs) lie in
     adjacent-cons (λ a b. a.arc ≡ b.arc → a.to ≡ b.«from») r s rs
-    (λ same.
-    let last = end_of_run m r.arc r.«from» (r.to - r.«from») in
-    let at = ap (λ (v : Vertex). v.at) (sym last ∙ linked.0 same) in
-    let edge = here.edge in
-    omega arith)
+    (λ same. next_begins m r s here (linked.0 same))
     (joined_refs m (s ∷ rs) (All-tail (LiesInArc m) r (s ∷ rs) lie) linked.1)
+
+-- the chain s is behind the chain r in the order of arcs, and of one arc it begins where that has ended
+record IsBehind (r s : ChainRef) : Type 0 where
+  arcs : r.arc ≤ s.arc
+  ends : r.arc ≡ s.arc → r.to ≤ s.«from»
+
+all_behind : (m : Map) (r : ChainRef) (refs : List ChainRef) → All (LiesInArc m) (r ∷ refs) → AreLinked (map (chain_in m) (r ∷ refs)) → AreByArc (map (chain_in m) (r ∷ refs)) → AllByRecursion (IsBehind r) refs
+all_behind m r [] lie linked sorted = tt
+all_behind m r (s ∷ rs) lie linked sorted =
+    let here = All-head (LiesInArc m) r (s ∷ rs) lie in
+    let rest = All-tail (LiesInArc m) r (s ∷ rs) lie in
+    let next : IsBehind r s = record {
+      arcs = sorted.0;
+      ends = λ same. let joins = next_begins m r s here (linked.0 same) in omega arith;
+    } in
+    (next, weaken_all (IsBehind s) (IsBehind r) (λ t later. further t (All-head (LiesInArc m) s rs rest) next later) rs (all_behind m s rs rest linked.1 sorted.1))
+  where
+    further : (t : ChainRef) → LiesInArc m s → IsBehind r s → IsBehind s t → IsBehind r t
+    further t lies next later =
+        let first = next.arcs in
+        let second = later.arcs in
+        record {
+          arcs = omega arith;
+          ends = λ same.
+              let ends = next.ends (omega arith) in
+              let begins = later.ends (omega arith) in
+              let edge = lies.edge in
+              omega arith;
+        }
+
+pub refs_in_order : (m : Map) (refs : List ChainRef) → All (LiesInArc m) refs → AreLinked (map (chain_in m) refs) → AreByArc (map (chain_in m) refs) → AreInOrder refs
+refs_in_order m [] lie linked sorted = λ i j d before below. absurd (omega arith)
+refs_in_order m (r ∷ []) lie linked sorted = λ i j d before below. absurd (omega arith)
+refs_in_order m (r ∷ s ∷ rs) lie linked sorted =
+    let behind = weaken_all (IsBehind r) (λ t. r.arc ≡ t.arc → r.to ≤ t.«from») (λ t is. is.ends) (s ∷ rs) (all_behind m r (s ∷ rs) lie linked sorted) in
+    AllPairs-cons (λ a b. a.arc ≡ b.arc → a.to ≤ b.«from») r (s ∷ rs) (All-from_recursion (λ t. r.arc ≡ t.arc → r.to ≤ t.«from») (s ∷ rs) behind) (refs_in_order m (s ∷ rs) (All-tail (LiesInArc m) r (s ∷ rs) lie) linked.1 sorted.1)

@@ -1,11 +1,13 @@
 -- A chain of numbered vertices, and what is left of it where some are kept.
-use Rattle.std.proofs.Common.{◌≡◌, ◌≢◌, ◌∙◌, ℕ, suc, ◌+◌, ◌-◌, ◌<◌, ◌≤◌, List, [], ◌∷◌, inl, inr, AllPairs, map, length, get_or, slice_index, drop, refl, sym, ap, arith}
+use Rattle.std.proofs.Common.{◌≡◌, ◌∙◌, ℕ, suc, ◌+◌, ◌-◌, ◌<◌, ◌≤◌, List, [], ◌∷◌, inl, inr, AllPairs, map, length, get_or, slice_index, drop, refl, sym, ap, subst, arith}
 use Rattle.std.proofs.lemmas.List.{get_or-map, get_or_default, length-map, drop-map, get_or-drop}
 use Rattle.std.proofs.lemmas.Bool.{cases_lt}
 use Rattle.std.proofs.lemmas.List.Kept.{AllPairs-from_increasing}
 use Rattle.std.proofs.lemmas.Simd.{map-map}
 use Rattle.std.specs.List.Sorted.{IsStrictlyIncreasing}
 use Rattle.grid_exact.specs.Geometry.{Place}
+use Rattle.grid_exact.specs.Frame.{IsBeforeIn}
+use Rattle.grid_exact.specs.declared.frame.Frame.{Frame}
 use Rattle.arc_map.specs.Map.{Map}
 use Rattle.arc_map.specs.Vertices.{places}
 use Rattle.arc_map.specs.Chains.{chain_places}
@@ -14,6 +16,8 @@ use Rattle.arc_map.specs.Arranged.{position_at}
 use Rattle.arc_map.specs.Work.{vertex_in, AreKeptIn}
 use Rattle.arc_map.specs.Live.{numbered, SpansChain}
 use Rattle.arc_map.specs.declared.refs.ChainRef.{ChainRef}
+use Rattle.arc_map.proofs.Cutting.{RunsOneWay}
+use Rattle.arc_map.proofs.Cutting.RunsOneWay.{Rises, Falls}
 use Rattle.arc_map.proofs.Rising.{rising_order}
 
 -- two functions that agree on each element of a list make the same list of it
@@ -89,13 +93,18 @@ kept_positions numbers kept position d within =
     map_same (λ at. get_or (map position numbers) at d) (λ at. position (get_or numbers at 0)) kept (λ k below. get_or-map position numbers (get_or kept k 0) 0 d (within k 0 below))
     ∙ sym (map-map position (λ at. get_or numbers at 0) kept)
 
--- no two of the kept positions are one
-pub kept_distinct : (positions : List Place) (kept : List ℕ) (d : Place) → IsStrictlyIncreasing kept → ((k : ℕ) (e : ℕ) → k < length kept → get_or kept k e < length positions) → AllPairs (λ p q. p ≢ q) positions → AllPairs (λ p q. p ≢ q) (map (λ at. get_or positions at d) kept)
-kept_distinct positions kept d rising within distinct i j e before below same =
-    let inside : j < length kept = omega (arith, length-map kept (λ at. get_or positions at d)) in
-    let first = get_or-map (λ at. get_or positions at d) kept i 0 e (omega arith) in
-    let second = get_or-map (λ at. get_or positions at d) kept j 0 e inside in
-    distinct (get_or kept i 0) (get_or kept j 0) d (AllPairs-from_increasing kept rising i j 0 before inside) (within j 0 inside) (sym first ∙ same ∙ second)
+-- any two of the kept elements have a relation that any two of all have
+pub kept_pairs : {X : Type 0} (R : X → X → Type 0) (xs : List X) (kept : List ℕ) (d : X) → IsStrictlyIncreasing kept → ((k : ℕ) (e : ℕ) → k < length kept → get_or kept k e < length xs) → AllPairs R xs → AllPairs R (map (λ at. get_or xs at d) kept)
+kept_pairs R xs kept d rising within pairs i j e before below =
+    let inside : j < length kept = omega (arith, length-map kept (λ at. get_or xs at d)) in
+    let first = get_or-map (λ at. get_or xs at d) kept i 0 e (omega arith) in
+    let second = get_or-map (λ at. get_or xs at d) kept j 0 e inside in
+    let both = pairs (get_or kept i 0) (get_or kept j 0) d (AllPairs-from_increasing kept rising i j 0 before inside) (within j 0 inside) in
+    subst (λ x. R x (get_or (map (λ at. get_or xs at d) kept) j e)) (sym first) (subst (λ y. R (get_or xs (get_or kept i 0) d) y) (sym second) both)
+
+pub kept_one_way : (frame : Frame) (ps : List Place) (kept : List ℕ) (d : Place) → IsStrictlyIncreasing kept → ((k : ℕ) (e : ℕ) → k < length kept → get_or kept k e < length ps) → RunsOneWay frame ps → RunsOneWay frame (map (λ at. get_or ps at d) kept)
+kept_one_way frame ps kept d rising within (Rises pairs) = Rises (kept_pairs (λ p q. IsBeforeIn frame p q) ps kept d rising within pairs)
+kept_one_way frame ps kept d rising within (Falls pairs) = Falls (kept_pairs (λ p q. IsBeforeIn frame q p) ps kept d rising within pairs)
 
 -- the chain of the kept numbers is the chain with the kept vertices
 pub kept_rest : (m : Map) (r : ChainRef) (numbers kept : List ℕ) → 1 ≤ length numbers → slice_index numbers 0 ≡ r.«from» → ((k : ℕ) (e : ℕ) → k < length kept → get_or kept k e < length numbers) → map (vertex_in m r.arc) (drop 1 (map (λ at. get_or numbers at 0) kept)) ≡ vertices_at (numbered m r numbers) (drop 1 kept)

@@ -4,6 +4,8 @@ use Rattle.std.specs.Prelude.{◌≡◌, ◌≢◌, ◌+◌, ◌-◌, ◌≤◌,
 use Rattle.std.specs.List.{AllAdjacentBelow, range_with_len}
 use Rattle.std.specs.List.Sorted.{IsStrictlyIncreasing}
 use Rattle.arc_map.specs.Map.{Map}
+use Rattle.grid_exact.specs.Runs.{IsMonotone}
+use Rattle.arc_map.specs.Vertices.{places}
 use Rattle.arc_map.specs.Chains.{Chain}
 use Rattle.arc_map.specs.Arcs.{most_edges}
 use Rattle.arc_map.specs.Arranged.{arc_at, position_at}
@@ -41,12 +43,18 @@ pub record IsLive (m : Map) (c : LiveChain) : Type 0 where
   pub short : length c.numbers.items ≤ most_edges + 1
   pub positions : c.vertices.items ≡ map (position_at m c.place.arc) c.numbers.items
   pub distinct : AllPairs (λ p q. p ≢ q) c.vertices.items
+  pub one_way : IsMonotone c.place.frame (live_chain m c).first.place (places (live_chain m c).rest)
 
 -- of one arc, each chain ends where the next begins
 abbrev pub AreJoined : List ChainRef → Type 0
 AreJoined refs = AllAdjacentBelow (λ r s. r.arc ≡ s.arc → r.to ≡ s.«from») refs (length refs)
 
+-- of one arc, each chain ends before the later ones begin
+abbrev pub AreInOrder : List ChainRef → Type 0
+AreInOrder refs = AllPairs (λ r s. r.arc ≡ s.arc → r.to ≤ s.«from») refs
+
 pub record AreLive (w : Inside) : Type 0 where
   pub few : length w.chains.items ≤ 2 ^ 20
   pub joined : AreJoined (map (λ c. c.place) w.chains.items)
+  pub in_order : AreInOrder (map (λ c. c.place) w.chains.items)
   pub chains : All (IsLive w.base) w.chains.items

@@ -2,7 +2,7 @@
 ghost use Rattle.std.specs.Prelude.{◌≡◌, ◌≢◌, ◌+◌, ◌-◌, ◌<◌, ◌≤◌, ◌^◌, ◌++◌, All, AllPairs, IfOk, drop, length, map, slice_get, slice_index_or, take};
 ghost use Rattle.std.specs.List.Sorted.{IsStrictlyIncreasing};
 ghost use Rattle.arc_map.specs.Arcs.{map_now};
-ghost use Rattle.arc_map.specs.Chains.{chain_at, chain_places};
+ghost use Rattle.arc_map.specs.Chains.{chain_at, chain_places, AreChains};
 ghost use Rattle.std.specs.List.{range_with_len};
 ghost use Rattle.arc_map.specs.Ends.{EndLists, IsEndTable};
 ghost use Rattle.arc_map.specs.Live.{IsRead};
@@ -60,11 +60,13 @@ impl WorkMap {
         })
     }
 
-    /// How many chains there are.
+    /// How many chains there are. Whatever was thinned, they are chains of a map: each runs strictly
+    /// one way within one arc, and they have no vertex in common but their ends.
     pub fn chain_count(&self) -> u32
         ensures value { result ≡ length self.now.chains }
         ensures refs { result ≡ length self.now.refs }
         ensures few { result ≤ 2 ^ 20 }
+        ensures chains { AreChains self.now.chains }
     {
         self.chains.len() as u32
     }
@@ -76,6 +78,7 @@ impl WorkMap {
         ensures several { 2 ≤ length result.now }
         ensures short { length result.now ≤ 1024 }
         ensures distinct { AllPairs (λ p q. p ≢ q) result.now }
+        ensures chains { AreChains self.now.chains }
     {
         self.chains[k as usize].vertices.as_slice()
     }

@@ -1,11 +1,12 @@
 -- The positions in memory are the places of the vertices.
 use Rattle.std.proofs.Common.{◌<◌, length, sym, subst, arith}
 use Rattle.std.proofs.lemmas.List.{length-map}
-use Rattle.arc_map.specs.Chains.{no_chain}
+use Rattle.arc_map.specs.Chains.{no_chain, AreChains}
 use Rattle.arc_map.specs.Work.{Work}
 use Rattle.arc_map.specs.Live.{live_chain, IsLive}
 use Rattle.arc_map.proofs.Elements.{of_item, mapped-at}
 use Rattle.arc_map.proofs.Alive.{count_alike}
+use Rattle.arc_map.proofs.Chained.{are_chains}
 use Rattle.arc_map.proofs.Thinning.{numbered_places}
 use Rattle.arc_map.proofs.work.WorkMap.chain.Goals as goal
 
@@ -36,3 +37,6 @@ returns-clause-distinct c =
     let within = subst (λ (w : Work). c.args.k < length w.chains) (sym c.self.view_is) c.requires in
     let here : c.args.k < length live = omega (arith, within, length-map live (live_chain m)) in
     rw c.as_slice.ensures.value (of_item (IsLive m) live c.args.k c.index.result.now here c.index.ensures c.self.invariant.chains).distinct
+
+pub returns-clause-chains : goal.returns-clause-chains
+returns-clause-chains c = subst (λ (w : Work). AreChains w.chains) c.self.view_is (are_chains c.self.inside c.self.invariant)

@@ -9,8 +9,8 @@ use Rattle.arc_map.specs.Work.{chain_in, AreChainsIn}
 use Rattle.arc_map.specs.declared.refs.ChainRef.{ChainRef}
 use Rattle.arc_map.specs.declared.work.LiveChain.{LiveChain}
 use Rattle.arc_map.specs.Live.{IsRead, IsLive}
-use Rattle.arc_map.proofs.Cutting.{runs_of_arcs, count_of_arcs, linked_of_arcs}
-use Rattle.arc_map.proofs.Reading.{all_live, refs_read, chains_read, joined_refs, zipped-push}
+use Rattle.arc_map.proofs.Cutting.{runs_of_arcs, count_of_arcs, linked_of_arcs, by_arc_of_arcs}
+use Rattle.arc_map.proofs.Reading.{all_live, refs_read, chains_read, joined_refs, refs_in_order, zipped-push}
 use Rattle.arc_map.proofs.work.WorkMap.new.Goals as goal
 
 pub loop-place-preserved : goal.loop-place-preserved
@@ -46,6 +46,7 @@ invariant_of-result c =
     record {
       few = few_chains m refs cs few are places;
       joined = rw places (joined_refs m refs c.requires.lie (linked_of_arcs 0 m.arcs (map (chain_in m) refs) c.requires.cut));
+      in_order = rw places (refs_in_order m refs c.requires.lie (linked_of_arcs 0 m.arcs (map (chain_in m) refs) c.requires.cut) (by_arc_of_arcs 0 m.arcs (map (chain_in m) refs) c.requires.cut));
       chains = All-from_recursion (IsLive m) cs (all_live m refs cs read c.requires.lie (runs_of_arcs 0 m.arcs (map (chain_in m) refs) c.requires.cut));
     }
 

@@ -66,6 +66,7 @@ invariant_of-self c =
     record {
       few = omega (arith, c.self.invariant.few, length-set w.chains.items c.args.k y);
       joined = rw (map-set_same (λ (v : LiveChain). v.place) w.chains.items c.args.k y x place) c.self.invariant.joined;
+      in_order = rw (map-set_same (λ (v : LiveChain). v.place) w.chains.items c.args.k y x place) c.self.invariant.in_order;
       chains = All-set (IsLive w.base) w.chains.items c.args.k y live c.self.invariant.chains;
     }
 
