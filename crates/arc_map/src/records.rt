@@ -13,9 +13,9 @@ pub struct ChainRecord<'a> {
     pub arc: u32,
     /// the place of the chain's first position in the arc as read, from 0
     pub from: u32,
-    /// the places in the chain, from 0, of the vertices that are kept
+    /// the places in the chain as found, from 0, of the vertices that are kept
     pub kept: &'a [u32],
-    /// for each vertex of the chain the least number of allowed steps to the last
+    /// for each vertex of the chain as found the least number of allowed steps to the last
     pub layers: &'a [u32],
 }
 

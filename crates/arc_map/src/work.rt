@@ -71,7 +71,8 @@ impl WorkMap {
         self.chains.len() as u32
     }
 
-    /// The vertices of chain number `k` as they are now.
+    /// The positions of the vertices of chain number `k` as it is now, in grid units, from its first to
+    /// its last.
     pub fn chain(&self, k: u32) -> &[Point]
         requires { k < length self.now.chains }
         ensures places { result.now ≡ chain_places (chain_at self.now.chains k) }
@@ -83,7 +84,8 @@ impl WorkMap {
         self.chains[k as usize].vertices.as_slice()
     }
 
-    /// The place of chain number `k` in the map read.
+    /// The place of chain number `k` in the map read: its arc, and the numbers of its first and last
+    /// vertex there. Thinning leaves it as it is.
     pub fn chain_ref(&self, k: u32) -> ChainRef
         requires { k < length self.now.chains }
         ensures { slice_get self.now.refs k ≡ Some result }
@@ -107,7 +109,8 @@ impl WorkMap {
         self.base.point(k)
     }
 
-    /// Leaves just the vertices of chain number `k` at the places `kept`, from 0. All else stays.
+    /// Leaves just the vertices of chain number `k` at the places `kept` in the chain as it is now, from
+    /// 0. They keep their numbers in the arc as read. All else stays.
     pub fn thin(&mut self, k: u32, kept: &[u32])
         requires chain { k < length self.old.chains }
         requires kept { AreKeptIn (chain_at self.old.chains k) kept.now }
