@@ -1,45 +1,171 @@
-"""Looks at the repository's own rules, beside what the gate proves. Prints what it finds."""
+"""Looks at the repository's own rules, beside what the gate proves.
+
+    python3 .ci/tidy.py
+
+Prints what it finds, one line each, and ends with status 1 where it found anything. Long
+lines are counted and are no finding.
+"""
+
+from __future__ import annotations
+
 import pathlib
 import re
 import sys
+from collections.abc import Iterator
 
-top = pathlib.Path(__file__).resolve().parent.parent
-found = []
+TOP = pathlib.Path(__file__).resolve().parent.parent
+CRATE_PAGES = ("docs/ARCHITECTURE.md", "docs/PROMISES.md")
+WIDEST = {".rt": 100, ".antt": 140}
+OUTSIDE = re.compile(r"\.\./shared|\bprototypes?/")
+LINK = re.compile(r"\[[^\]]*\]\(([^)\s]+)\)")
+HEADING = re.compile(r"^#+ +(.*)$", re.MULTILINE)
+SECTION = re.compile(r"^### (.*)$", re.MULTILINE)
+CODE = re.compile(r"`([^`]+)`")
+CLAUSES = re.compile(r"\(((?:`\w+`(?:, )?)+)\)")
+WORD = re.compile(r"[A-Za-z_][A-Za-z0-9_]*")
 
 
-def say(text):
-    found.append(text)
+def crates() -> list[str]:
+    """The crates that crates.txt lists."""
+    lines = (TOP / "crates.txt").read_text().splitlines()
+    listed = [line for line in lines if line.strip() and not line.startswith("#")]
+    return [line.split(":")[0].split()[0] for line in listed]
 
 
-if (top / "HANDLES").read_text() != "Handles allowed: none.\n":
-    say("HANDLES is not its one line")
+def files(*suffixes: str) -> Iterator[pathlib.Path]:
+    """The files with one of these endings, without what a build made."""
+    for path in sorted(TOP.rglob("*")):
+        parts = path.relative_to(TOP).parts
+        if path.is_file() and path.suffix in suffixes and "out" not in parts:
+            if ".git" not in parts:
+                yield path
 
-names = [
-    line.split(":")[0].split()[0]
-    for line in (top / "crates.txt").read_text().splitlines()
-    if line.strip() and not line.startswith("#")
-]
-pages = {page: (top / page).read_text() for page in ("README.md", "docs/ARCHITECTURE.md")}
-for name in names:
-    for page, text in pages.items():
-        if f"`{name}`" not in text:
-            say(f"{page} does not speak of `{name}`")
-    folder = top / "crates" / name
-    roots = [folder / "src" / root for root in ("lib.rt", "main.rt") if (folder / "src" / root).exists()]
-    for root in roots:
-        if "#![tactic(auto)]" not in root.read_text():
-            say(f"{root.relative_to(top)} has no #![tactic(auto)]")
-    edits = list((folder / "must-fail").glob("*.edit"))
-    if not 3 <= len(edits) <= 5:
-        say(f"crates/{name} has {len(edits)} must-fail edits, and three to five are wanted")
 
-shared = re.compile(r"\.\./shared|\bprototypes?/")
-for path in top.rglob("*"):
-    relative = path.relative_to(top)
-    if path.is_file() and path.suffix in (".md", ".rt", ".antt", ".edit", ".txt") and "out" not in relative.parts:
-        if shared.search(path.read_text()):
-            say(f"{relative} cites what is not in the repository")
+def shown(path: pathlib.Path) -> str:
+    """The path from the top of the repository."""
+    return str(path.relative_to(TOP))
 
-for text in found:
-    print("tidy:", text)
-sys.exit(1 if found else 0)
+
+def handles() -> Iterator[str]:
+    """The file HANDLES is its one line."""
+    if (TOP / "HANDLES").read_text() != "Handles allowed: none.\n":
+        yield "HANDLES is not its one line"
+
+
+def pages_of_crates() -> Iterator[str]:
+    """Each page on the crates speaks of every one of them."""
+    for page in CRATE_PAGES:
+        text = (TOP / page).read_text()
+        for name in crates():
+            if f"`{name}`" not in text:
+                yield f"{page} does not speak of `{name}`"
+
+
+def roots() -> Iterator[str]:
+    """Each crate tries the tactics."""
+    for name in crates():
+        for root in ("lib.rt", "main.rt"):
+            path = TOP / "crates" / name / "src" / root
+            if path.exists() and "#![tactic(auto)]" not in path.read_text():
+                yield f"{shown(path)} has no #![tactic(auto)]"
+
+
+def edits() -> Iterator[str]:
+    """Each crate has three to five edits that the prover has to refuse."""
+    for name in crates():
+        count = len(list((TOP / "crates" / name / "must-fail").glob("*.edit")))
+        if not 3 <= count <= 5:
+            yield f"crates/{name} has {count} must-fail edits, and 3 to 5 are wanted"
+
+
+def outside() -> Iterator[str]:
+    """Nothing cites what is not in the repository."""
+    for path in files(".md", ".rt", ".antt", ".edit", ".txt"):
+        if OUTSIDE.search(path.read_text()):
+            yield f"{shown(path)} cites what is not in the repository"
+
+
+def anchor(heading: str) -> str:
+    """The anchor of a heading, as code hosts make it."""
+    return re.sub(r"[^\w\- ]", "", heading.strip().lower()).replace(" ", "-")
+
+
+def links() -> Iterator[str]:
+    """Each relative link of a page leads to a file, and its anchor to a heading there."""
+    for page in files(".md"):
+        for target in LINK.findall(page.read_text()):
+            if re.match(r"[a-z]+:", target):
+                continue
+            name, _, place = target.partition("#")
+            path = page.parent / name if name else page
+            if not path.exists():
+                yield f"{shown(page)}: no file {target}"
+            elif place and path.suffix == ".md":
+                headings = HEADING.findall(path.read_text())
+                if place not in {anchor(heading) for heading in headings}:
+                    yield f"{shown(page)}: no heading {target}"
+
+
+def words_of(name: str, folder: str, suffix: str) -> set[str]:
+    """All words of a crate's files of one kind."""
+    words: set[str] = set()
+    for path in (TOP / "crates" / name / folder).rglob(f"*{suffix}"):
+        words.update(WORD.findall(path.read_text()))
+    return words
+
+
+def named_calls(text: str) -> Iterator[str]:
+    """The calls that the first cells of a table name, and the clauses in brackets."""
+    for row in text.splitlines():
+        if row.startswith("| `"):
+            yield from CODE.findall(row.split(" | ")[0])
+    for clauses in CLAUSES.findall(text):
+        yield from CODE.findall(clauses)
+
+
+def promises() -> Iterator[str]:
+    """Each call and clause that PROMISES.md names under a crate stands in that crate."""
+    text = (TOP / "docs/PROMISES.md").read_text()
+    parts = SECTION.split(text)[1:]
+    for heading, body in zip(parts[::2], parts[1::2]):
+        known: set[str] = set()
+        for name in CODE.findall(heading):
+            known |= words_of(name, "src", ".rt")
+        for call in named_calls(body):
+            if not known.issuperset(WORD.findall(call)):
+                yield f"docs/PROMISES.md, {heading}: no `{call}` in the code"
+
+
+def wide() -> str:
+    """How many lines are wider than they should be."""
+    counts = dict.fromkeys(WIDEST, 0)
+    for path in files(*WIDEST):
+        lines = path.read_text().splitlines()
+        counts[path.suffix] += sum(len(line) > WIDEST[path.suffix] for line in lines)
+    parts = [f"{counts[end]} of {end} past {most}" for end, most in WIDEST.items()]
+    return "lines too wide: " + ", ".join(parts)
+
+
+def main() -> int:
+    """Prints the findings; the status is 1 where there are any."""
+    found = [
+        finding
+        for rule in (
+            handles,
+            pages_of_crates,
+            roots,
+            edits,
+            outside,
+            links,
+            promises,
+        )
+        for finding in rule()
+    ]
+    for finding in found:
+        print("tidy:", finding)
+    print("tidy:", wide())
+    return 1 if found else 0
+
+
+if __name__ == "__main__":
+    sys.exit(main())

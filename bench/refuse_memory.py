@@ -3,14 +3,21 @@
 
     python3 bench/refuse_memory.py PROGRAM MAP BOUND
 
-PROGRAM is the built command, MAP an arranged map. `simplify`, `layers`, `check` and `faces` of the map, `make` and `demo` are run once
-with all memory, and then with the first, second, third .. demand refused, until no demand is left. Each run has to end with
-status 10 and nothing on standard output, and with no message but `no memory`. One other end is right: as with all memory,
-where a list that is refused a generous growth asks again for what it needs. Wants gcc, for the small library that refuses."""
+PROGRAM is the built command, MAP an arranged map. `simplify`, `layers`, `check` and `faces` of
+the map, `make` and `demo` are run once with all memory, and then with the first, second, third
+.. demand refused, until no demand is left. Each run has to end with status 10 and nothing on
+standard output, and with no message but `no memory`. One other end is right: as with all
+memory, where a list that is refused a generous growth asks again for what it needs. Wants gcc,
+for the small library that refuses."""
+
+from __future__ import annotations
+
 import os
+import pathlib
 import subprocess
 import sys
 import tempfile
+from typing import NamedTuple
 
 REFUSER = r"""
 #include <errno.h>
@@ -45,60 +52,93 @@ int posix_memalign(void **to, size_t align, size_t size) {
 QUIET = 8
 
 
-def run(words, refuser=None, refused=0):
-    """Runs the words; gives the status and what was written to both outputs."""
-    env = dict(os.environ, LD_PRELOAD=refuser, REFUSED=str(refused)) if refuser else None
+class Ended(NamedTuple):
+    """How a run ended: its status and what it wrote to both outputs."""
+
+    status: int
+    out: bytes
+    note: bytes
+
+
+class Count(NamedTuple):
+    """How many refused demands ended a run with status 10, and how many changed nothing."""
+
+    refused: int
+    unchanged: int
+
+
+def run(words: list[str], refuser: pathlib.Path | None = None, number: int = 0) -> Ended:
+    """Runs the words, with the demand of this number refused where a refuser is given."""
+    env = dict(os.environ)
+    if refuser is not None:
+        env |= {"LD_PRELOAD": str(refuser), "REFUSED": str(number)}
     ended = subprocess.run(words, env=env, capture_output=True)
-    return ended.returncode, ended.stdout, ended.stderr
+    return Ended(ended.returncode, ended.stdout, ended.stderr)
 
 
-def built(folder):
-    source, library = os.path.join(folder, "refuser.c"), os.path.join(folder, "refuser.so")
-    with open(source, "w") as text:
-        text.write(REFUSER)
-    subprocess.run(["gcc", "-O1", "-shared", "-fPIC", "-o", library, source], check=True)
+def built(folder: pathlib.Path) -> pathlib.Path:
+    """The library that refuses, built into the folder."""
+    source, library = folder / "refuser.c", folder / "refuser.so"
+    source.write_text(REFUSER)
+    words = ["gcc", "-O1", "-shared", "-fPIC", "-o", str(library), str(source)]
+    subprocess.run(words, check=True)
     return library
 
 
-def refuse_each(words, refuser):
-    """Refuses each demand in turn; gives how many ended with status 10, and how many changed nothing."""
+def is_refusal(ended: Ended) -> bool:
+    """Whether the run ended as want of memory should end it."""
+    return ended.status == 10 and not ended.out and ended.note in (b"", b"no memory\n")
+
+
+def refuse_each(words: list[str], refuser: pathlib.Path) -> Count:
+    """Refuses each demand of the words in turn."""
     whole = run(words)
-    if whole[0] != 0:
-        sys.exit("%s ended with %d" % (" ".join(words), whole[0]))
-    ended, unchanged, quiet, number = 0, 0, 0, 0
+    if whole.status != 0:
+        sys.exit(f"{' '.join(words)} ended with {whole.status}")
+    refused, unchanged, quiet, number = 0, 0, 0, 0
     while quiet < QUIET:
         number += 1
-        status, out, note = run(words, refuser, number)
-        if (status, out, note) == whole:
+        ended = run(words, refuser, number)
+        if ended == whole:
             quiet += 1
-            continue
-        if status != 10 or out != b"" or note not in (b"", b"no memory\n"):
-            sys.exit("%s, demand %d refused: status %d, %r, %r" % (" ".join(words), number, status, out[:40], note))
-        ended, unchanged, quiet = ended + 1, unchanged + quiet, 0
-    return ended, unchanged
+        elif is_refusal(ended):
+            refused, unchanged, quiet = refused + 1, unchanged + quiet, 0
+        else:
+            sys.exit(f"{' '.join(words)}, demand {number} refused: {ended}")
+    return Count(refused, unchanged)
 
 
-def main(program, path, bound):
-    with tempfile.TemporaryDirectory() as folder:
+def forms(program: str, path: str, bound: str, folder: pathlib.Path) -> list[list[str]]:
+    """The words of each form over the map."""
+    made = {}
+    for form in ("simplify", "layers"):
+        made[form] = str(folder / form)
+        pathlib.Path(made[form]).write_bytes(run([program, form, bound, path]).out)
+    return [
+        ["simplify", bound, path],
+        ["layers", bound, path],
+        ["check", bound, path, made["simplify"], made["layers"]],
+        ["faces", path],
+        ["make", "1", "1", "7"],
+        ["demo", "1", "1", "7", "100"],
+    ]
+
+
+def main(words: list[str]) -> None:
+    """Refuses each demand of each form."""
+    if len(words) != 3:
+        sys.exit(__doc__)
+    program, path, bound = words
+    with tempfile.TemporaryDirectory() as made:
+        folder = pathlib.Path(made)
         refuser = built(folder)
-        made = {}
-        for form in ("simplify", "layers"):
-            made[form] = os.path.join(folder, form)
-            with open(made[form], "wb") as text:
-                text.write(run([program, form, bound, path])[1])
-        forms = [
-            ["simplify", bound, path],
-            ["layers", bound, path],
-            ["check", bound, path, made["simplify"], made["layers"]],
-            ["faces", path],
-            ["make", "1", "1", "7"],
-            ["demo", "1", "1", "7", "100"],
-        ]
-        for words in forms:
-            ended, unchanged = refuse_each([program] + words, refuser)
-            print("%s: %d demands refused: status 10; %d: as with all memory" % (words[0], ended, unchanged))
+        for form in forms(program, path, bound, folder):
+            count = refuse_each([program, *form], refuser)
+            print(
+                f"{form[0]}: {count.refused} demands refused: status 10; "
+                f"{count.unchanged}: as with all memory"
+            )
 
 
-if len(sys.argv) != 4:
-    sys.exit(__doc__)
-main(*sys.argv[1:])
+if __name__ == "__main__":
+    main(sys.argv[1:])
