@@ -1,25 +1,27 @@
 //! A topology: the map that it is, and where the value of `arcs` stands.
 
-ghost use Rattle.std.specs.Prelude.{◌≡◌, ◌≤◌, ◌<◌, ◌^◌, ℕ, Bool, List, IfOk, IfErr, All, length, vec_len};
-ghost use Rattle.std.specs.Global.{Vec};
+ghost use Rattle.std.specs.Prelude.{◌≡◌, ◌≤◌, ◌^◌, IfOk, IfErr, All, vec_len};
 ghost use Rattle.grid_exact.specs.Geometry.{Place};
 ghost use Rattle.json_scan.specs.Grammar.{Document, IsJson};
-ghost use Rattle.json_scan.specs.Tree.{Extent, Tree, ObjectAt, Entries, NodeIs, HasTree, node_at, document_tree};
+ghost use Rattle.json_scan.specs.Tree.{document_tree};
+ghost use Rattle.json_scan.specs.Shown.{tree};
+ghost use Rattle.json_scan.specs.Members.{members, holder};
 ghost use Rattle.topo_reader.specs.Sequence.{Faults};
+ghost use Rattle.topo_reader.specs.Gives.{Gives};
 ghost use Rattle.topo_reader.specs.Arcs.{places_of, AreArcs};
 ghost use Rattle.topo_reader.specs.Ends.{HasEvenEnds};
-ghost use Rattle.topo_reader.specs.Reads.{header_of, map_of, topology_of};
+ghost use Rattle.topo_reader.specs.Reads.{header_of, map_of, topology_from, topology_of};
 ghost use Rattle.topo_reader.specs.TopologyIs.{topology_read, LiesIn};
 
 use crate::arcs::arcs_value;
-use crate::fault::{ReadFault, ShapeKind};
+use crate::fault::{ReadFault, ShapeKind, wrong};
 use crate::geometries::SeenSoFar;
 use crate::member::{required, topology_type};
 use crate::objects::objects;
 use crate::transform::is_coded;
 use arc_map::ArcMap;
 use grid_exact::Point;
-use json_scan::{Kind, Scan};
+use json_scan::{Object, Scan, Value, value_of};
 use std::alloc::Global;
 
 /// A part of a text: the place of its first byte and the place behind its last, in bytes from 0.
@@ -37,57 +39,58 @@ pub struct Topology {
 }
 
 /// Reads `type` and `transform`: whether the map is coded.
-fn header(scan: &Scan<'_>, node: u32) -> Result<bool, ReadFault>
-    requires tree { HasTree scan.now node }
-    requires object { (node_at scan.now node).kind ≡ Kind.Object }
-    ensures { (e : Extent) → (members : Entries) → NodeIs scan.now node (ObjectAt e members) → result ≡ header_of (ObjectAt e members) members }
+fn header(object: Object<'_>) -> Result<bool, ReadFault>
+    ensures { result ≡ header_of (holder object.entry) (members object.entry) }
 {
-    let value = required(scan, node, "type")?;
-    topology_type(scan, value)?;
-    is_coded(scan, node)
+    let value = required(object, "type")?;
+    topology_type(value)?;
+    is_coded(object)
 }
 
 /// Reads `objects`, into the map of these arcs.
 fn read_map(
     alloc: Global,
-    scan: &Scan<'_>,
-    node: u32,
+    object: Object<'_>,
     arcs: Vec<Vec<Point>>,
     coded: bool,
 ) -> Result<ArcMap, ReadFault>
-    requires tree { HasTree scan.now node }
-    requires object { (node_at scan.now node).kind ≡ Kind.Object }
     requires few_arcs { vec_len arcs ≤ 2 ^ 20 }
     requires are_arcs { AreArcs (places_of arcs.items) }
     ensures even_ends { IfOk result (λ map. All (HasEvenEnds map.arcs) map.polygons) }
-    ensures value { (e : Extent) → (members : Entries) → NodeIs scan.now node (ObjectAt e members) → IfOk result (λ map. map_of coded (places_of arcs.items) (ObjectAt e members) members ≡ Ok map) }
-    ensures fault { (e : Extent) → (members : Entries) → NodeIs scan.now node (ObjectAt e members) → IfErr result (Faults (map_of coded (places_of arcs.items) (ObjectAt e members) members)) }
+    ensures gives { Gives (λ map. map) result
+        (map_of coded (places_of arcs.items) (holder object.entry) (members object.entry)) }
 {
-    let value = required(scan, node, "objects")?;
+    let value = required(object, "objects")?;
     let mut seen = SeenSoFar::new(alloc);
-    objects(alloc, scan, &arcs, value, &mut seen)?;
+    objects(alloc, value, &arcs, &mut seen)?;
     Ok(ArcMap::new(arcs, seen.points, seen.polygons, coded))
 }
 
-/// Reads a topology from the Object of a node.
-fn read_object(alloc: Global, scan: &Scan<'_>, node: u32) -> Result<Topology, ReadFault>
-    requires tree { HasTree scan.now node }
-    requires object { (node_at scan.now node).kind ≡ Kind.Object }
-    ensures value { (e : Extent) → (members : Entries) → NodeIs scan.now node (ObjectAt e members) → IfOk result (λ topology. topology_of (ObjectAt e members) ≡ Ok (topology_read topology)) }
-    ensures fault { (e : Extent) → (members : Entries) → NodeIs scan.now node (ObjectAt e members) → IfErr result (Faults (topology_of (ObjectAt e members))) }
-    ensures span { IfOk result (λ topology. LiesIn scan.now.bytes topology.arcs_at) }
+/// Reads a topology from its Object.
+fn read_object(alloc: Global, object: Object<'_>) -> Result<Topology, ReadFault>
+    ensures gives { Gives topology_read result (topology_from (holder object.entry) (members object.entry)) }
     ensures even_ends { IfOk result (λ topology. All (HasEvenEnds topology.map.arcs) topology.map.polygons) }
 {
-    let coded = header(scan, node)?;
-    let value = required(scan, node, "arcs")?;
-    let arcs = arcs_value(alloc, scan, value, coded)?;
-    let map = read_map(alloc, scan, node, arcs, coded)?;
-    let found = scan.node(value);
+    let coded = header(object)?;
+    let value = required(object, "arcs")?;
+    let arcs = arcs_value(alloc, value, coded)?;
+    let map = read_map(alloc, object, arcs, coded)?;
     let arcs_at = Span {
-        start: found.start,
-        end: found.end,
+        start: value.start(),
+        end: value.end(),
     };
     Ok(Topology { map, arcs_at })
+}
+
+/// Reads the topology that a value is.
+fn read_value(alloc: Global, value: Value<'_>) -> Result<Topology, ReadFault>
+    ensures gives { Gives topology_read result (topology_of (tree value.entry)) }
+    ensures even_ends { IfOk result (λ topology. All (HasEvenEnds topology.map.arcs) topology.map.polygons) }
+{
+    match value.as_object() {
+        Some(object) => read_object(alloc, object),
+        None => Err(wrong(ShapeKind::NotObject, value)),
+    }
 }
 
 /// Reads the topology that a text is, or gives the first fault in the order of the walk, with its place in
@@ -99,14 +102,5 @@ pub fn read(alloc: Global, scan: &Scan<'_>) -> Result<Topology, ReadFault>
     ensures span { IfOk result (λ topology. LiesIn scan.now.bytes topology.arcs_at) }
     ensures even_ends { IfOk result (λ topology. All (HasEvenEnds topology.map.arcs) topology.map.polygons) }
 {
-    let count = scan.count();
-    prove!(count > 0);
-    let found = scan.node(0);
-    if found.kind != Kind::Object {
-        return Err(ReadFault::Shape {
-            kind: ShapeKind::NotObject,
-            at: found.start,
-        });
-    }
-    read_object(alloc, scan, 0)
+    read_value(alloc, value_of(scan))
 }

@@ -1,6 +1,6 @@
-use Rattle.std.proofs.Common.{arith}
-use Rattle.json_scan.proofs.Nodes.{node-lies}
+use Rattle.json_scan.specs.Shown.{tree}
+use Rattle.topo_reader.proofs.Spans.{reading-lies}
 use Rattle.topo_reader.proofs.reader.read.Goals as goal
 
-pub prove-unreachable-requires : goal.prove-unreachable-requires
-prove-unreachable-requires c = omega (arith, (node-lies c.args.scan.now 0 c.count-count.ensures.has_tree).within)
+pub returns-clause-span : goal.returns-clause-span
+returns-clause-span c = reading-lies c.args.scan.now 0 (tree c.value_of.result) c.read_value.result c.value_of.ensures.stands c.read_value.ensures.gives

@@ -1,5 +1,6 @@
 use Rattle.std.proofs.Common.{◌≡◌, All, Ok, arith, subst, sym}
 use Rattle.arc_map.specs.Map.{Map}
+use Rattle.json_scan.specs.Shown.{tree}
 use Rattle.topo_reader.specs.Ends.{HasEvenEnds}
 use Rattle.topo_reader.specs.Arcs.{places_of}
 use Rattle.topo_reader.specs.Geometries.{Seen, nothing_seen, objects_of}
@@ -9,9 +10,8 @@ use Rattle.topo_reader.proofs.reader.read_map.Goals as goal
 
 pub new-requires : goal.new-requires
 new-requires c =
-    let t = c.in_ok-value.ensures.has_tree.0 in
-    let walked = c.in_ok-objects.ensures.value t c.in_ok-value.ensures.has_tree.1 in
-    let from = subst (λ (s : Seen). objects_of (places_of c.deref.result.now) t s ≡ Ok (seen_of c.objects.new.seen)) c.new-seen.ensures walked in
+    let t = tree c.in_ok-value.value in
+    let from = subst (λ (s : Seen). objects_of (places_of c.deref.result.now) t s ≡ Ok (seen_of c.objects.new.seen)) c.new-seen.ensures c.in_ok-objects.ensures in
     let is = objects-keep (places_of c.args.arcs.items) c.requires.are_arcs.each t nothing_seen (seen_of c.objects.new.seen) (nothing-seen _) (rw c.deref.ensures.value at from) in
     record {
       arcs = c.requires.are_arcs.each;
@@ -25,8 +25,7 @@ new-requires c =
 
 pub returns-clause-even_ends : goal.returns-clause-even_ends
 returns-clause-even_ends c =
-    let t = c.in_ok-value.ensures.has_tree.0 in
-    let walked = c.in_ok-objects.ensures.value t c.in_ok-value.ensures.has_tree.1 in
-    let from = subst (λ (s : Seen). objects_of (places_of c.deref.result.now) t s ≡ Ok (seen_of c.objects.new.seen)) c.new-seen.ensures walked in
+    let t = tree c.in_ok-value.value in
+    let from = subst (λ (s : Seen). objects_of (places_of c.deref.result.now) t s ≡ Ok (seen_of c.objects.new.seen)) c.new-seen.ensures c.in_ok-objects.ensures in
     let is = objects-keep (places_of c.args.arcs.items) c.requires.are_arcs.each t nothing_seen (seen_of c.objects.new.seen) (nothing-seen _) (rw c.deref.ensures.value at from) in
     subst (λ (m : Map). All (HasEvenEnds m.arcs) m.polygons) (sym c.new.ensures.value) is.even
