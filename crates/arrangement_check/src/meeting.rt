@@ -87,15 +87,8 @@ fn is_less(pair: (EdgeRef, EdgeRef), least: Option<(EdgeRef, EdgeRef)>) -> bool
 {
     match least {
         None => true,
-        Some((e, f)) => precedes(pair.0, e) || (pair.0 == e && precedes(pair.1, f)),
+        Some((e, f)) => pair.0 < e || (pair.0 == e && pair.1 < f),
     }
-}
-
-// Whether e is before f: by arc, then by place in the arc.
-fn precedes(e: EdgeRef, f: EdgeRef) -> bool
-    ensures { IsTrue result ↔ IsEarlier e f }
-{
-    e.arc < f.arc || (e.arc == f.arc && e.at < f.at)
 }
 
 // The least feature point that lies on an edge, with the least such edge.
@@ -130,6 +123,6 @@ fn is_less_town(town: (u32, EdgeRef), least: Option<(u32, EdgeRef)>) -> bool
 {
     match least {
         None => true,
-        Some((other, e)) => town.0 < other || (town.0 == other && precedes(town.1, e)),
+        Some((other, e)) => town.0 < other || (town.0 == other && town.1 < e),
     }
 }

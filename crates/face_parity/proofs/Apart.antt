@@ -12,7 +12,7 @@ use Rattle.grid_exact.proofs.Areas.{area_about}
 use Rattle.grid_exact.proofs.Orders.{lt_no, lt_yes}
 use Rattle.grid_exact.proofs.Crossings.{crossed_after, crossed_before, crossed_between, crossed_turned}
 use Rattle.arc_map.specs.Arcs.{is_list_crossed_oddly}
-use Rattle.face_parity.proofs.Counting.{odd-cons}
+use Rattle.grid_exact.proofs.Walks.{is_odd-counted}
 use lib.IntN.{*ℤ_comm}
 
 -- ---- one edge
@@ -97,7 +97,7 @@ list-none : (p : Place) (P : Place → Type 0) → ((a b : Place) → P a → P 
 list-none p P none v [] all = refl
 list-none p P none v (w ∷ ws) all =
     let rest = All-tail P v (w ∷ ws) all in
-    odd-cons (is_crossed p) v w ws
+    is_odd-counted (is_crossed p) v w ws
     ∙ ap (λ b. differ b (is_odd (count_edges (is_crossed p) w ws))) (none v w (All-head P v (w ∷ ws) all) (All-head P w ws rest))
     ∙ list-none p P none w ws rest
 
@@ -120,7 +120,7 @@ list-above : (p v : Place) (ws : List Place) → All (λ q. p.y <ℤ q.y) (v ∷
 list-above p v [] all = sym (differ-self (int_lt v.x p.x))
 list-above p v (w ∷ ws) all =
     let rest = All-tail (λ q. p.y <ℤ q.y) v (w ∷ ws) all in
-    odd-cons (is_crossed p) v w ws
+    is_odd-counted (is_crossed p) v w ws
     ∙ parted (is_crossed p v w) (is_odd (count_edges (is_crossed p) w ws)) (differ (int_lt v.x p.x) (int_lt w.x p.x)) (differ (int_lt w.x p.x) (int_lt (end_of w ws).x p.x))
     (edge-above p v w (All-head (λ q. p.y <ℤ q.y) v (w ∷ ws) all) (All-head (λ q. p.y <ℤ q.y) w ws rest))
     (list-above p w ws rest)

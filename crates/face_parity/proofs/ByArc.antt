@@ -24,7 +24,7 @@ use Rattle.face_parity.specs.declared.cells.Celled.{Celled}
 use Rattle.face_parity.specs.declared.cells.Limits.{Limits}
 use Rattle.face_parity.specs.declared.floors.Floors.{Floors}
 use Rattle.face_parity.specs.declared.runs.Run.{Run}
-use Rattle.face_parity.proofs.Counting.{differ-false}
+use Rattle.grid_exact.proofs.Crossings.{differ_false}
 use Rattle.face_parity.proofs.Lowest.{inside-sum}
 use Rattle.face_parity.proofs.Same.{in-later, pass-same}
 use Rattle.face_parity.proofs.Seen.{odd-reaches}
@@ -186,13 +186,13 @@ module _ (m : Map) (floors : Floors) (runs : List Run) (limits : Limits) (width 
 
 -- where a run is not crossed, no polygon is turned
 pub not-crossed : (m : Map) (p : Place) (k : ℕ) (r : Run) (odd crossed : Bool) → crossed ≡ is_run_crossed m p r → crossed ≡ false → odd ≡ differ odd (turns m p k r)
-not-crossed m p k r odd crossed is none = sym (ap (differ odd) (and_left (is_run_crossed m p r) (pass_oddly (λ arc. arc == r.arc) (get_or m.polygons k [])) (sym is ∙ none)) ∙ differ-false odd)
+not-crossed m p k r odd crossed is none = sym (ap (differ odd) (and_left (is_run_crossed m p r) (pass_oddly (λ arc. arc == r.arc) (get_or m.polygons k [])) (sym is ∙ none)) ∙ differ_false odd)
 
 -- where the floor of a run is above y, no polygon with a floor that is not above it is turned
 pub not-floored : (m : Map) (p : Place) (y k : ℕ) (r : Run) (odd : Bool) → y < r.floor → IsFloored m y k r → odd ≡ differ odd (turns m p k r)
 not-floored m p y k r odd above floored = elim (cases_Bool (pass_oddly (λ arc. arc == r.arc) (get_or m.polygons k []))) [
   | inl named ↦ let low = floored (named-held r.arc (get_or m.polygons k []) named) in absurd (omega (arith, low, above))
-  | inr unnamed ↦ sym (ap (differ odd) (and_right (is_run_crossed m p r) (pass_oddly (λ arc. arc == r.arc) (get_or m.polygons k [])) unnamed) ∙ differ-false odd)
+  | inr unnamed ↦ sym (ap (differ odd) (and_right (is_run_crossed m p r) (pass_oddly (λ arc. arc == r.arc) (get_or m.polygons k [])) unnamed) ∙ differ_false odd)
 ]
 
 -- where a run is crossed, the polygons that name its arc are turned

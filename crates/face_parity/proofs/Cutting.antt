@@ -15,7 +15,8 @@ use Rattle.face_parity.specs.Parities.{pass_oddly}
 use Rattle.face_parity.specs.Runs.{AreRunsBefore, AreRunsOf, IsRunOf, is_part_crossed, is_run_crossed, run_part}
 use Rattle.face_parity.specs.declared.floors.Floors.{Floors}
 use Rattle.face_parity.specs.declared.runs.Run.{Run}
-use Rattle.face_parity.proofs.Counting.{differ-assoc, differ-false, odd-cons}
+use Rattle.grid_exact.proofs.Walks.{is_odd-counted, differ_assoc}
+use Rattle.grid_exact.proofs.Crossings.{differ_false}
 use Rattle.face_parity.proofs.Sums.{pass-append, pass-none}
 
 -- ---- a list and its parts
@@ -36,10 +37,10 @@ parts p (suc at) more (suc total) (v ∷ []) is = ends at
     ends zero = refl
     ends (suc at) = refl
 parts p (suc at) more (suc total) (v ∷ w ∷ ws) is =
-    odd-cons (is_crossed p) v w (take total ws)
+    is_odd-counted (is_crossed p) v w (take total ws)
     ∙ ap (differ (is_crossed p v w)) (parts p at more total (w ∷ ws) (omega (arith, is)))
-    ∙ sym (differ-assoc (is_crossed p v w) (is_list_crossed_oddly p (take (suc at) (w ∷ ws))) (is_list_crossed_oddly p (take (suc more) (drop at (w ∷ ws)))))
-    ∙ ap (λ b. differ b (is_list_crossed_oddly p (take (suc more) (drop at (w ∷ ws))))) (sym (odd-cons (is_crossed p) v w (take at ws)))
+    ∙ differ_assoc (is_crossed p v w) (is_list_crossed_oddly p (take (suc at) (w ∷ ws))) (is_list_crossed_oddly p (take (suc more) (drop at (w ∷ ws))))
+    ∙ ap (λ b. differ b (is_list_crossed_oddly p (take (suc more) (drop at (w ∷ ws))))) (sym (is_odd-counted (is_crossed p) v w (take at ws)))
 
 -- ---- runs so far
 
@@ -93,13 +94,13 @@ run-is-part m p arc at to r rises is_arc is_from is_to =
     ∙ ap (λ n. is_list_crossed_oddly p (take n ps)) (sym last)
 
 push-one : {X : Type 0} (test : X → Bool) (xs : List X) (x : X) (b : Bool) → test x ≡ b → pass_oddly test (xs ++ x ∷ []) ≡ differ (pass_oddly test xs) b
-push-one test xs x b is = pass-append test xs (x ∷ []) ∙ ap (differ (pass_oddly test xs)) (differ-false (test x) ∙ is)
+push-one test xs x b is = pass-append test xs (x ∷ []) ∙ ap (differ (pass_oddly test xs)) (differ_false (test x) ∙ is)
 
 pub runs-more : (m : Map) (floors : Floors) (arc at to : ℕ) (runs : List Run) (r : Run) → AreRunsTo m floors arc at runs → IsRunOf m floors r → at < to → r.arc ≡ arc → r.from ≡ at → r.to ≡ to → AreRunsTo m floors arc to (runs ++ r ∷ [])
 runs-more m floors arc at to runs r are run rises is_arc is_from is_to = record {
   only = All-push (IsRunOf m floors) runs r are.only run;
   before = All-push (λ s. s.arc < arc + 1) runs r are.before (omega (arith, is_arc));
-  crossed = λ p k less. push-one (is_part_crossed m p k) runs r false (not-part m p k r (λ same. omega (arith, same, is_arc, less))) ∙ differ-false (pass_oddly (is_part_crossed m p k) runs) ∙ are.crossed p k less;
+  crossed = λ p k less. push-one (is_part_crossed m p k) runs r false (not-part m p k r (λ same. omega (arith, same, is_arc, less))) ∙ differ_false (pass_oddly (is_part_crossed m p k) runs) ∙ are.crossed p k less;
   part = λ p. push-one (is_part_crossed m p arc) runs r (is_run_crossed m p r) (of-arc m p arc r is_arc) ∙ ap (λ b. differ b (is_run_crossed m p r)) (are.part p) ∙ run-is-part m p arc at to r rises is_arc is_from is_to;
 }
 

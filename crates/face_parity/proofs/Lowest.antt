@@ -18,7 +18,7 @@ use Rattle.face_parity.specs.Bounds.{IsOffsetOf, do_part}
 use Rattle.face_parity.specs.Floors.{AreSpansTo, IsFloorOf, IsFloorOver, IsSpanOf, ends_along, no_span, span_at}
 use Rattle.face_parity.specs.Parities.{pass_oddly}
 use Rattle.face_parity.specs.declared.floors.Span.{Span}
-use Rattle.face_parity.proofs.Counting.{differ-assoc}
+use Rattle.grid_exact.proofs.Walks.{differ_assoc}
 use Rattle.face_parity.proofs.Seen.{above-ends, offset-is}
 use Rattle.face_parity.proofs.Sums.{pass-agree, pass-permutation}
 
@@ -45,7 +45,7 @@ pair-more xs at test within same =
 pass-ends : (spans : List Span) (x : ℕ) (refs : List ℕ) → pass_oddly (λ e. nat_lt e x) (ends_along spans refs) ≡ pass_oddly (λ arc. do_part (span_at spans arc).ends x) refs
 pass-ends spans x [] = refl
 pass-ends spans x (arc ∷ refs) =
-    sym (differ-assoc (nat_lt (span_at spans arc).ends.first x) (nat_lt (span_at spans arc).ends.last x) (pass_oddly (λ e. nat_lt e x) (ends_along spans refs)))
+    differ_assoc (nat_lt (span_at spans arc).ends.first x) (nat_lt (span_at spans arc).ends.last x) (pass_oddly (λ e. nat_lt e x) (ends_along spans refs))
     ∙ ap (differ (do_part (span_at spans arc).ends x)) (pass-ends spans x refs)
 
 pub floor-by-pairs : (spans : List Span) (refs ends sorted : List ℕ) (low : ℕ) → ends ≡ ends_along spans refs → IsPermutation ends sorted → ((test : ℕ → Bool) → pass_oddly test sorted ≡ false) → All (λ arc. low ≤ (span_at spans arc).low) refs → IsFloorOver spans refs low

@@ -11,7 +11,7 @@ use Rattle.grid_exact.specs.Walks.{differ}
 use Rattle.face_parity.specs.Parities.{pass_oddly}
 use Rattle.face_parity.specs.Naming.{is_naming, named_by, IsStartOf, AreNamings}
 use Rattle.face_parity.specs.declared.namings.Naming.{Naming}
-use Rattle.face_parity.proofs.Counting.{differ-false}
+use Rattle.grid_exact.proofs.Crossings.{differ_false}
 use Rattle.face_parity.proofs.Sums.{pass-agree, pass-append, pass-map, pass-none, pass-permutation}
 
 abbrev pub some_naming : Naming
@@ -60,7 +60,7 @@ differ-false-left : (b c : Bool) → b ≡ false → differ b c ≡ c
 differ-false-left b c is = ap (λ x. differ x c) is
 
 differ-false-right : (b c : Bool) → c ≡ false → differ b c ≡ b
-differ-false-right b c is = ap (differ b) is ∙ differ-false b
+differ-false-right b c is = ap (differ b) is ∙ differ_false b
 
 module _ (ns : List Naming) (arc start end : ℕ) (first : IsStartOf ns arc start) (second : IsStartOf ns (arc + 1) end) where
   abbrev rest : List Naming

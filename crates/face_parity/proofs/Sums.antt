@@ -7,7 +7,7 @@ use Rattle.std.proofs.lemmas.List.Sorted.{sum_by-IsPermutation}
 use Rattle.std.proofs.lemmas.List.Sums.{sum_by-cons}
 use Rattle.grid_exact.specs.Walks.{is_odd, differ}
 use Rattle.face_parity.specs.Parities.{pass_oddly}
-use Rattle.face_parity.proofs.Counting.{differ-assoc}
+use Rattle.grid_exact.proofs.Walks.{differ_assoc}
 
 not-not : (b : Bool) → not (not b) ≡ b
 not-not true = refl
@@ -24,7 +24,7 @@ differ-crossed true true true d = refl
 
 pub pass-append : {X : Type 0} (test : X → Bool) (xs ys : List X) → pass_oddly test (xs ++ ys) ≡ differ (pass_oddly test xs) (pass_oddly test ys)
 pass-append test [] ys = refl
-pass-append test (x ∷ xs) ys = ap (differ (test x)) (pass-append test xs ys) ∙ sym (differ-assoc (test x) (pass_oddly test xs) (pass_oddly test ys))
+pass-append test (x ∷ xs) ys = ap (differ (test x)) (pass-append test xs ys) ∙ differ_assoc (test x) (pass_oddly test xs) (pass_oddly test ys)
 
 pub pass-none : {X : Type 0} (test : X → Bool) (xs : List X) → All (λ x. test x ≡ false) xs → pass_oddly test xs ≡ false
 pass-none test [] all = refl
@@ -67,4 +67,4 @@ pass-permutation test xs ys moves = sym (pass-count test ys) ∙ ap is_odd (sum_
 
 -- the parity so far and that of what is left make up the whole
 pub pass-at : {X : Type 0} (test : X → Bool) (odd : Bool) (xs : List X) (i : ℕ) (d : X) → i < length xs → differ (differ odd (test (get_or xs i d))) (pass_oddly test (drop (i + 1) xs)) ≡ differ odd (pass_oddly test (drop i xs))
-pass-at test odd xs i d within = rw (add-one, drop-cons xs i d within) (differ-assoc odd (test (get_or xs i d)) (pass_oddly test (drop (suc i) xs)))
+pass-at test odd xs i d within = rw (add-one, drop-cons xs i d within) (sym (differ_assoc odd (test (get_or xs i d)) (pass_oddly test (drop (suc i) xs))))

@@ -5,11 +5,7 @@ ghost use Rattle.grid_exact.specs.Geometry.{IsGridNumber};
 ghost use Rattle.sweep_index.specs.Offsets.{offset_of};
 ghost use Rattle.face_parity.specs.Bounds.{IsOffsetOf, IsIn, IsRound, IsEndsOf, do_part, does_reach};
 
-use crate::crossings::toggled;
-use grid_exact::Point;
-
-// How far the least coordinate is below 0.
-const REACH: i64 = 1 << 29;
+use grid_exact::{MAX_COORDINATE, Point, exactly_one};
 
 // The coordinates of a place, counted from the least one.
 #[derive(Clone, Copy)]
@@ -36,7 +32,7 @@ fn counted(z: i64) -> u32
     ensures value { result ≡ offset_of z }
     ensures small { result ≤ 2 ^ 30 }
 {
-    (z + REACH) as u32
+    (z + MAX_COORDINATE) as u32
 }
 
 // A closed box.
@@ -124,6 +120,6 @@ impl Ends {
     pub fn part(self, x: u32) -> bool
         ensures { result ≡ do_part self x }
     {
-        toggled(self.first < x, self.last < x)
+        exactly_one(self.first < x, self.last < x)
     }
 }

@@ -1,5 +1,5 @@
 -- How many edges of a walk pass a test, odd or even, and that closed walks are crossed and crossed sideways alike.
-use Rattle.std.proofs.Common.{◌≡◌, suc, Bool, true, false, List, [], ◌∷◌, ◌++◌, refl, sym, ap, ◌∙◌}
+use Rattle.std.proofs.Common.{◌≡◌, ◌-◌, ◌<◌, suc, Bool, true, false, List, [], ◌∷◌, ◌++◌, length, get_or, refl, sym, ap, ◌∙◌, arith}
 use Rattle.grid_exact.specs.Geometry.{Place, IsBefore}
 use Rattle.grid_exact.specs.Crossing.{is_crossed, is_crossed_sideways, is_ahead}
 use Rattle.grid_exact.specs.Walks.{EachEdge, end_of, count_edges, is_odd, differ, IsOff}
@@ -80,6 +80,13 @@ is_odd-pushed test v (w ∷ ws) x =
 pub end_of-pushed : {A : Type 0} (v : A) (ws : List A) (x : A) → end_of v (ws ++ x ∷ []) ≡ x
 end_of-pushed v [] x = refl
 end_of-pushed v (w ∷ ws) x = end_of-pushed w ws x
+
+pub end_is_last : {A : Type 0} (v : A) (ws : List A) (d : A) → 0 < length ws → end_of v ws ≡ get_or ws (length ws - 1) d
+end_is_last v [] d some = absurd (omega arith)
+end_is_last v (w ∷ []) d some = refl
+end_is_last v (w ∷ x ∷ xs) d some =
+    let place : length (w ∷ x ∷ xs) - 1 ≡ suc (length (x ∷ xs) - 1) = omega arith in
+    rw place (end_is_last w (x ∷ xs) d (omega arith))
 
 pub each_edge_mapped : {A : Type 0} (P Q : A → A → Type 0) → ((a b : A) → P a b → Q a b) → (v : A) (ws : List A) → EachEdge P v ws → EachEdge Q v ws
 each_edge_mapped P Q f v [] h = tt

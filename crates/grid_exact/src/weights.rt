@@ -65,6 +65,8 @@ impl Weights {
     pub fn apply(self, p: Point) -> Option<Point>
         ensures on_grid { IsSome result ↔ IsOnGrid (weighted self.x self.y p) }
         ensures value { IfSome result (λ q. q ≡ weighted self.x self.y p) }
+        // What is multiplied by weights lies in the same order, since they are above 0.
+        ensures in_range { IsWeight self.x × IsWeight self.y }
     {
         Point::new(self.x() * p.x(), self.y() * p.y())
     }

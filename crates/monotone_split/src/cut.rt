@@ -5,11 +5,8 @@ ghost use Rattle.arc_map.specs.Work.{AreChainsIn};
 ghost use Rattle.monotone_split.specs.Cut.{IsFurthestRun, IsNextChainRef, AddsChainsOf, AreChainRefs};
 
 use arc_map::{ArcMap, ChainRef, NoMemory};
-use grid_exact::{Frame, Point, order};
+use grid_exact::{Frame, MAX_CHAIN_EDGES, Point, order};
 use std::alloc::{AllocError, Global};
-
-// How many edges a chain has at most.
-const MOST_EDGES: usize = 1023;
 
 // How many edges from the first position on run strictly one way in the order of the frame, at most as many as a
 // chain may have.
@@ -19,7 +16,7 @@ fn furthest_run(frame: Frame, positions: &[Point]) -> usize
     ensures { IsFurthestRun frame positions.now result }
 {
     let way = order(frame, positions[0], positions[1]);
-    let limit = (positions.len() - 1).min(MOST_EDGES);
+    let limit = (positions.len() - 1).min(MAX_CHAIN_EDGES);
     for run in 1..limit {
         if order(frame, positions[run], positions[run + 1]) != way {
             return run;

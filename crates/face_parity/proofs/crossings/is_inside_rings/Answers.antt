@@ -11,4 +11,4 @@ loop-arc-preserved c =
     let within : at < length refs = search rules in
     let here = get_or_from_slice_get arcs (get_or refs at 0) c.arc.result.now [] c.arc.ensures.value in
     let step = inside-at c.args.p arcs c.loop-arc.is_in refs at within in
-    rw (c.toggled-is_in.ensures, c.is_crossed_oddly.ensures, ← here) (step ∙ c.loop-arc.invariant)
+    rw (c.exactly_one-is_in.ensures, c.is_crossed_oddly.ensures, ← here) (step ∙ c.loop-arc.invariant)
