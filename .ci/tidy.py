@@ -23,6 +23,8 @@ SECTION = re.compile(r"^### (.*)$", re.MULTILINE)
 CODE = re.compile(r"`([^`]+)`")
 CLAUSES = re.compile(r"\(((?:`\w+`(?:, )?)+)\)")
 WORD = re.compile(r"[A-Za-z_][A-Za-z0-9_]*")
+IMPL = re.compile(r"^impl(?:<[^>]*>)? (\w+)[^{]*\{(.*?)^\}", re.MULTILINE | re.DOTALL)
+EXPORT = re.compile(r"^pub use (?:crate::)?\w+::(?:\{([^}]*)\}|(\w+));", re.MULTILINE)
 
 
 def crates() -> list[str]:
@@ -123,14 +125,29 @@ def named_calls(text: str) -> Iterator[str]:
         yield from CODE.findall(clauses)
 
 
+def handed_out(name: str) -> list[str]:
+    """The functions that a crate's root hands out, and the types that have calls."""
+    root = TOP / "crates" / name / "src" / "lib.rt"
+    if not root.exists():
+        return []
+    code = "\n".join(path.read_text() for path in root.parent.rglob("*.rt"))
+    named = [word for pair in EXPORT.findall(root.read_text()) for word in pair]
+    words = [word for part in named for word in WORD.findall(part)]
+    called = {kind for kind, body in IMPL.findall(code) if "\n    pub fn" in body}
+    return [word for word in words if word[0].islower() or word in called]
+
+
 def promises() -> Iterator[str]:
-    """Each call and clause that PROMISES.md names under a crate stands in that crate."""
+    """What PROMISES.md names under a crate stands in that crate, and it names each call."""
     text = (TOP / "docs/PROMISES.md").read_text()
     parts = SECTION.split(text)[1:]
     for heading, body in zip(parts[::2], parts[1::2]):
         known: set[str] = set()
         for name in CODE.findall(heading):
             known |= words_of(name, "src", ".rt")
+            for call in handed_out(name):
+                if call not in WORD.findall(body):
+                    yield f"docs/PROMISES.md, {heading}: nothing on `{call}`"
         for call in named_calls(body):
             if not known.issuperset(WORD.findall(call)):
                 yield f"docs/PROMISES.md, {heading}: no `{call}` in the code"
