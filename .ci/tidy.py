@@ -63,6 +63,19 @@ def pages_of_crates() -> Iterator[str]:
                 yield f"{page} does not speak of `{name}`"
 
 
+def trusted() -> Iterator[str]:
+    """Each page on what is trusted names the kit's crates that are used."""
+    used: set[str] = set()
+    for line in (TOP / "crates.txt").read_text().splitlines():
+        if not line.startswith("#"):
+            used |= set(line.partition(":")[2].split())
+    for page in ("README.md", "docs/PROMISES.md"):
+        text = (TOP / page).read_text()
+        for name in sorted(used - set(crates())):
+            if f"`{name}`" not in text:
+                yield f"{page} does not speak of the kit's crate `{name}`"
+
+
 def roots() -> Iterator[str]:
     """Each crate tries the tactics."""
     for name in crates():
@@ -170,6 +183,7 @@ def main() -> int:
         for rule in (
             handles,
             pages_of_crates,
+            trusted,
             roots,
             edits,
             outside,
