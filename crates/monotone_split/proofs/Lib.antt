@@ -3,9 +3,11 @@ pub mod RisingViews
 pub mod Junctions
 pub mod WalkParts
 pub mod Shortcuts
+pub mod EdgeLaws
 pub mod Paths
 pub mod Maps
 pub mod Sides
+pub mod OneSided
 pub mod Arranged
 pub mod Numbers
 pub mod Cuts

@@ -21,9 +21,9 @@ use Rattle.monotone_split.proofs.Junctions.{join_at_starts, join_at_start_and_en
 use Rattle.monotone_split.proofs.WalkParts.{last_edge, first_edge, end_of-places, closed_walk-places, run_ends_apart}
 
 -- the vertex x of a run is at no end of the edge cd where they may join
-record Excludes (c d x : Vertex) : Type 0 where
-  start : MayJoin x c → ¬ (x.place ≡ c.place)
-  end : MayJoin x d → ¬ (x.place ≡ d.place)
+pub record Excludes (c d x : Vertex) : Type 0 where
+  pub start : MayJoin x c → ¬ (x.place ≡ c.place)
+  pub end : MayJoin x d → ¬ (x.place ≡ d.place)
 
 apart_by : (a b c d : Vertex) → Excludes c d a → Excludes c d b → MeetLawfully a b c d → IsApart c.place d.place a.place b.place
 apart_by a b c d at_a at_b lawful h =
@@ -34,14 +34,14 @@ apart_by a b c d at_a at_b lawful h =
       | Ends e f m ↦ at_b.end m (ends_are_one a.place b.place c.place d.place h e f)
     ]
 
-apart_run : (v : Vertex) (skipped : List Vertex) (w c d : Vertex) → Excludes c d v → EachOf (Excludes c d) skipped → Excludes c d w → EachEdge (λ a b. MeetLawfully a b c d) v (skipped ++ w ∷ []) → EachEdge (IsApart c.place d.place) v.place (places (skipped ++ w ∷ []))
+pub apart_run : (v : Vertex) (skipped : List Vertex) (w c d : Vertex) → Excludes c d v → EachOf (Excludes c d) skipped → Excludes c d w → EachEdge (λ a b. MeetLawfully a b c d) v (skipped ++ w ∷ []) → EachEdge (IsApart c.place d.place) v.place (places (skipped ++ w ∷ []))
 apart_run v [] w c d at_v at_skipped at_w lawful = (apart_by v w c d at_v at_w lawful.0, tt)
 apart_run v (k ∷ ks) w c d at_v at_skipped at_w lawful = (apart_by v k c d at_v at_skipped.0 lawful.0, apart_run k ks w c d at_skipped.0 at_skipped.1 at_w lawful.1)
 
 pub no_true : (t : Bool) → t ≡ false → IsTrue t → ⊥
 no_true t e h = cc
 
-excluded_within : (IsEdge : Vertex → Vertex → Type 0) (c d : Vertex) → IsEdge c d → (skipped : List Vertex) → EachOf (IsWithinChain IsEdge) skipped → EachOf (Excludes c d) skipped
+pub excluded_within : (IsEdge : Vertex → Vertex → Type 0) (c d : Vertex) → IsEdge c d → (skipped : List Vertex) → EachOf (IsWithinChain IsEdge) skipped → EachOf (Excludes c d) skipped
 excluded_within IsEdge c d edge [] h = tt
 excluded_within IsEdge c d edge (k ∷ ks) h = (record { start = λ m e. joins c m (h.0.no_start_of c d edge); end = λ m e. joins d m (h.0.no_end_of c d edge) }, excluded_within IsEdge c d edge ks h.1)
   where

@@ -74,13 +74,13 @@ falling_later view p v (w ∷ ws) falling h = (Later (falling_start view p v (w 
 
 -- an edge of a run starts at or after the run's start
 
-rising_from : (view : Place → Place) (v : Place) (ws : List Place) (a b : Place) → EachEdge (ComesFirst view) v ws → IsEdgeOf v ws a b → UpTo (view v) (view a)
+pub rising_from : (view : Place → Place) (v : Place) (ws : List Place) (a b : Place) → EachEdge (ComesFirst view) v ws → IsEdgeOf v ws a b → UpTo (view v) (view a)
 rising_from view v [] a b rising e = absurd e
 rising_from view v (w ∷ ws) a b rising (inl e) = There (ap view e.0)
 rising_from view v (w ∷ ws) a b rising (inr e) =
     elim (rising_from view w ws a b rising.1 e) [ Earlier h ↦ Earlier (then_before (view v) (view w) (view a) rising.0 h) | There h ↦ Earlier (subst (λ (x : Place). IsBefore (view v) x) h rising.0) ]
 
-falling_from : (view : Place → Place) (v : Place) (ws : List Place) (a b : Place) → EachEdge (λ a b. ComesFirst view b a) v ws → IsEdgeOf v ws a b → UpTo (view a) (view v)
+pub falling_from : (view : Place → Place) (v : Place) (ws : List Place) (a b : Place) → EachEdge (λ a b. ComesFirst view b a) v ws → IsEdgeOf v ws a b → UpTo (view a) (view v)
 falling_from view v [] a b falling e = absurd e
 falling_from view v (w ∷ ws) a b falling (inl e) = There (ap view (sym e.0))
 falling_from view v (w ∷ ws) a b falling (inr e) =
