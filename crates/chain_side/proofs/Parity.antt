@@ -24,10 +24,10 @@ use Rattle.chain_side.proofs.Told.{way_of, ends_rise, HasEnds, Forwards, Backwar
 
 -- ---- crossings as they are seen in a frame
 
-abbrev crossed_in : Frame → Place → Place → Place → Bool
+abbrev pub crossed_in : Frame → Place → Place → Place → Bool
 crossed_in frame p a b = is_crossed (placed_in frame p) (placed_in frame a) (placed_in frame b)
 
-abbrev oddly : Frame → Place → Place → List Place → Bool
+abbrev pub oddly : Frame → Place → Place → List Place → Bool
 oddly frame p v ws = is_odd (count_edges (crossed_in frame p) v ws)
 
 passed_uncrossed : (frame : Frame) (rising : Bool) (p a b : Place) → IsPassed frame rising p a b → crossed_in frame p a b ≡ false
@@ -40,7 +40,7 @@ passed_uncrossed Turned true p a b (Behind h k) = crossed_after (turned p) (turn
 passed_uncrossed Turned false p a b (Ahead h k) = crossed_after (turned p) (turned a) (turned b) h k
 passed_uncrossed Turned false p a b (Behind h k) = crossed_before (turned p) (turned a) (turned b) h k
 
-all_uncrossed : (frame : Frame) (rising : Bool) (p v : Place) (ws : List Place) → EachEdge (IsPassed frame rising p) v ws → oddly frame p v ws ≡ false
+pub all_uncrossed : (frame : Frame) (rising : Bool) (p v : Place) (ws : List Place) → EachEdge (IsPassed frame rising p) v ws → oddly frame p v ws ≡ false
 all_uncrossed frame rising p v [] h = refl
 all_uncrossed frame rising p v (w ∷ ws) h =
     is_odd-counted (crossed_in frame p) v w ws ∙ ap (λ (t : Bool). differ t (oddly frame p w ws)) (passed_uncrossed frame rising p v w h.0) ∙ all_uncrossed frame rising p w ws h.1
@@ -103,7 +103,7 @@ counted_same f g same v [] = refl
 counted_same f g same v (w ∷ ws) = is_odd-counted f v w ws ∙ ap (λ (t : Bool). differ t (is_odd (count_edges f w ws))) (same v w) ∙ ap (λ (t : Bool). differ (g v w) t) (counted_same f g same w ws) ∙ sym (is_odd-counted g v w ws)
 
 -- crossings of a closed walk, counted in the frame
-counted_in : (frame : Frame) (p v : Place) (ws : List Place) → IsOff p v (ws ++ v ∷ []) → is_odd (count_edges (is_crossed p) v (ws ++ v ∷ [])) ≡ oddly frame p v (ws ++ v ∷ [])
+pub counted_in : (frame : Frame) (p v : Place) (ws : List Place) → IsOff p v (ws ++ v ∷ []) → is_odd (count_edges (is_crossed p) v (ws ++ v ∷ [])) ≡ oddly frame p v (ws ++ v ∷ [])
 counted_in Plain p v ws off = refl
 counted_in Turned p v ws off = closed_walk p v (ws ++ v ∷ []) off (end_of-pushed v ws v) ∙ counted_same (is_crossed_sideways p) (crossed_in Turned p) (sideways_is_turned p) v (ws ++ v ∷ [])
 

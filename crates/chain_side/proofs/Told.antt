@@ -110,7 +110,7 @@ not_both_sides Plain a b p h k = omega (arith, sums)
 not_both_sides Turned a b p h k = omega (arith, sums)
 
 -- the edge e and the edge f that span p have the same ends
-spanning_same : (frame : Frame) (rising : Bool) (v : Place) (ws : List Place) (p : Place) → EachEdge (IsAlong frame rising) v ws → (e f : SpanningEdge frame v ws p) → (f.first ≡ e.first) × (f.second ≡ e.second)
+pub spanning_same : (frame : Frame) (rising : Bool) (v : Place) (ws : List Place) (p : Place) → EachEdge (IsAlong frame rising) v ws → (e f : SpanningEdge frame v ws p) → (f.first ≡ e.first) × (f.second ≡ e.second)
 spanning_same frame rising v ws p way e f = joined rising way (spanned_along frame rising v ws p way e) (spanned_along frame rising v ws p way f)
   where
     joined : (rising : Bool) → EachEdge (IsAlong frame rising) v ws → HasEnds frame v ws p e rising → HasEnds frame v ws p f rising → (f.first ≡ e.first) × (f.second ≡ e.second)

@@ -26,6 +26,11 @@ abbrev pub IsBelowEdge : Frame → Place → Place → Place → Type 0
 IsBelowEdge Plain a b p = area_of a b p <ℤ pos 0
 IsBelowEdge Turned a b p = pos 0 <ℤ area_of a b p
 
+-- p is strictly between a and b in the order of the frame: the edge ab spans p
+pub data IsSpanned (frame : Frame) (a b p : Place) : Type 0 where
+  Upwards : IsBeforeIn frame a p → IsBeforeIn frame p b → IsSpanned frame a b p
+  Downwards : IsBeforeIn frame b p → IsBeforeIn frame p a → IsSpanned frame a b p
+
 -- p is before both a and b in the order of the frame, or after both
 pub data IsOutside (frame : Frame) (a b p : Place) : Type 0 where
   Before : IsBeforeIn frame p a → IsBeforeIn frame p b → IsOutside frame a b p

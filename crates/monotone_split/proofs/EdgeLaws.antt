@@ -1,5 +1,5 @@
 -- The laws of an edge of another chain, beside a run and beside the shortcut that takes its place.
-use Rattle.std.proofs.Common.{◌≡◌, ◌⊎◌, ◌∙◌, inl, inr, ℕ, ℤ, pos, ◌*ℤ◌, List, [], ◌∷◌, ◌++◌, refl, sym, ap, subst}
+use Rattle.std.proofs.Common.{◌≡◌, ◌⊎◌, ◌∙◌, inl, inr, ℕ, ℤ, pos, ◌*ℤ◌, List, [], ◌∷◌, ◌++◌, sym, ap, subst}
 use Rattle.grid_exact.specs.Geometry.{Place, turned, IsBefore, IsOnSegment, CommonPoint}
 use Rattle.grid_exact.specs.Frame.{IsBeforeIn}
 use Rattle.grid_exact.specs.Spans.{IsUpTo, placed_in}
@@ -9,7 +9,7 @@ use Rattle.grid_exact.specs.Runs.{IsEdgeOf, IsMonotone}
 use Rattle.grid_exact.specs.Runs.IsMonotone.{Increasing, Decreasing}
 use Rattle.grid_exact.specs.declared.frame.Frame.{Frame}
 use Rattle.grid_exact.specs.declared.frame.Frame.TheVariants.{Plain, Turned}
-use Rattle.grid_exact.proofs.Commons.{common_at_start, common_at_end, common_swapped, common_end_and_start, first_turned, second_turned, start_on, end_is_on, starts_are_one, start_is_end, end_is_start, ends_are_one}
+use Rattle.grid_exact.proofs.Commons.{common_at_start, common_at_end, common_end_and_start, first_turned, second_turned, start_on, end_is_on, starts_are_one, start_is_end, end_is_start, ends_are_one}
 use Rattle.grid_exact.proofs.Orders.{compared}
 use Rattle.grid_exact.proofs.Orders.Compared.{Before, Same, After}
 use Rattle.grid_exact.proofs.Views.{common_turned_back}
@@ -18,19 +18,16 @@ use Rattle.arc_map.specs.Vertices.{Vertex, places, MeetLawfully}
 use Rattle.arc_map.specs.Vertices.IsJunction.{Starts, StartAndEnd, EndAndStart, Ends}
 use Rattle.arc_map.specs.Allowed.{IsConsistent}
 use Rattle.arc_map.specs.Allowed.IsConsistent.{AtStart, AtEnd, SameSide}
-use Rattle.arc_map.specs.Clear.{IsWithinChain}
 use Rattle.arc_map.specs.Chains.{Chain, IsOtherEdge}
-use Rattle.segment_tests.specs.Laws.{SpansMeet, AreOrdered}
-use Rattle.segment_tests.specs.Meeting.{MeetAtPoint}
+use Rattle.segment_tests.specs.Laws.{SpansMeet}
 use Rattle.segment_tests.proofs.Overlaps.{apart_are_ordered}
 use Rattle.segment_tests.proofs.Lines.{all_alike, none_alike}
-use Rattle.monotone_split.specs.Shortcuts.{IsBesideRun, StaysBeside, ShareEnd, IsOver, IsUnder, HasToEach, KeepsSide, EdgeKeepsSide, AreStrictlyOrdered, EdgeMissesShortcut, MeetsOnce, EdgeMeetsShortcutOnce}
+use Rattle.monotone_split.specs.Shortcuts.{IsBesideRun, ShareEnd, IsOver, IsUnder, HasToEach, KeepsSide, EdgeKeepsSide, EdgeMissesShortcut, EdgeMeetsShortcutOnce}
 use Rattle.monotone_split.specs.Shortcuts.ShareEnd.{Starts as AtStarts, StartAndEnd as AtStartAndEnd, EndAndStart as AtEndAndStart, Ends as AtBothEnds}
 use Rattle.monotone_split.proofs.RisingViews.{increases, apart_from_segment}
 use Rattle.monotone_split.proofs.WalkParts.{edge_has, end_of-places, run_ends_apart}
 use Rattle.monotone_split.proofs.Shortcuts.{Excludes, apart_run, excluded_within, aside, shortcut_meets_lawfully}
-use Rattle.monotone_split.proofs.Sides.{ComesFirst}
-use Rattle.monotone_split.proofs.OneSided.{Over, Under, OneSidedUp, OneSidedDown, EachUp, EachDown, one_sided_up, one_sided_down, not_behind}
+use Rattle.monotone_split.proofs.OneSided.{ComesFirst, EachUp, EachDown, one_sided_up, one_sided_down, not_behind}
 
 -- ---- no common point with the run
 

@@ -1,17 +1,34 @@
 -- An edge that has no common point with a run keeps to one side of it: edge by edge along the run, in a view of the plane.
-use Rattle.std.proofs.Common.{◌≡◌, ◌⊎◌, ◌∙◌, inl, inr, List, [], ◌∷◌, pos, ◌-ℤ◌, ◌<ℤ◌, refl, sym, ap, subst, arith}
-use Rattle.grid_exact.specs.Geometry.{Place, IsBefore, CommonPoint, area_of}
+use Rattle.std.proofs.Common.{◌≡◌, ◌⊎◌, ◌∙◌, inl, inr, List, [], ◌∷◌, pos, ◌<ℤ◌, refl, sym, ap, subst, arith}
+use Rattle.grid_exact.specs.Geometry.{Place, IsBefore, CommonPoint}
 use Rattle.grid_exact.specs.Spans.{IsUpTo, start_gap, end_gap, SameSign}
 use Rattle.grid_exact.specs.Spans.SameSign.{BothAbove, BothBelow}
 use Rattle.grid_exact.specs.Walks.{EachEdge}
 use Rattle.grid_exact.specs.Runs.{IsEdgeOf}
 use Rattle.grid_exact.proofs.WholeLaws.{sums}
-use Rattle.grid_exact.proofs.Orders.{compared, up_to, up_to_same, up_to_before, before_up_to, not_before_itself, not_tested}
+use Rattle.grid_exact.proofs.Orders.{compared, up_to, up_to_same, then_before, up_to_before, before_up_to, not_before_itself, not_tested}
 use Rattle.grid_exact.proofs.Orders.Compared.{Before, Same, After}
 use Rattle.grid_exact.proofs.Orders.UpTo.{Earlier, There}
 use Rattle.grid_exact.proofs.Orders.{UpTo}
 use Rattle.grid_exact.proofs.Spans.{one_above, start_gap-no, end_gap-no}
-use Rattle.monotone_split.proofs.Sides.{ComesFirst, rising_from, falling_from}
+
+-- places are compared as they are seen in the view
+abbrev pub ComesFirst : (Place → Place) → Place → Place → Type 0
+ComesFirst view a b = IsBefore (view a) (view b)
+
+-- an edge of a run starts at or after the run's start
+
+rising_from : (view : Place → Place) (v : Place) (ws : List Place) (a b : Place) → EachEdge (ComesFirst view) v ws → IsEdgeOf v ws a b → UpTo (view v) (view a)
+rising_from view v [] a b rising e = absurd e
+rising_from view v (w ∷ ws) a b rising (inl e) = There (ap view e.0)
+rising_from view v (w ∷ ws) a b rising (inr e) =
+    elim (rising_from view w ws a b rising.1 e) [ Earlier h ↦ Earlier (then_before (view v) (view w) (view a) rising.0 h) | There h ↦ Earlier (subst (λ (x : Place). IsBefore (view v) x) h rising.0) ]
+
+falling_from : (view : Place → Place) (v : Place) (ws : List Place) (a b : Place) → EachEdge (λ a b. ComesFirst view b a) v ws → IsEdgeOf v ws a b → UpTo (view a) (view v)
+falling_from view v [] a b falling e = absurd e
+falling_from view v (w ∷ ws) a b falling (inl e) = There (ap view (sym e.0))
+falling_from view v (w ∷ ws) a b falling (inr e) =
+    elim (falling_from view w ws a b falling.1 e) [ Earlier h ↦ Earlier (then_before (view a) (view w) (view v) h falling.0) | There h ↦ Earlier (subst (λ (x : Place). IsBefore x (view v)) (sym h) falling.0) ]
 
 pub not_behind : (a b : Place) → IsUpTo a b → IsBefore b a → ⊥
 not_behind a b h k = not_before_itself a a refl (up_to_before a b a h k)

@@ -1,12 +1,9 @@
--- The laws of sides and of one replacement, over all runs and maps.
-use Rattle.std.specs.Prelude.{◌≡◌, ◌≢◌, ◌↔◌, ◌<◌, ℕ, ℤ, IsTrue, false, List, [], ◌∷◌, ◌++◌, length, get_or, Contains}
-use Rattle.grid_exact.specs.declared.frame.Frame.{Frame}
+-- The laws of one replacement, over all maps.
+use Rattle.std.specs.Prelude.{◌≡◌, ◌≢◌, ◌↔◌, ◌<◌, ℕ, ℤ, IsTrue, List, [], ◌∷◌, length, get_or, Contains}
 use Rattle.grid_exact.specs.Geometry.{Place}
-use Rattle.grid_exact.specs.Crossing.{is_crossed}
-use Rattle.grid_exact.specs.Walks.{count_edges, is_odd, end_of, differ, IsOff}
 use Rattle.grid_exact.specs.Clash.{Clash, Flags}
 use Rattle.grid_exact.specs.Paths.{LeadsTo}
-use Rattle.grid_exact.specs.Runs.{IsEdgeOf, IsMonotone}
+use Rattle.grid_exact.specs.Runs.{IsEdgeOf}
 use Rattle.arc_map.specs.Map.{Map}
 use Rattle.arc_map.specs.Arcs.{IsMapArrangedBeside, AreChainsOf, AreKept, map_now, is_list_crossed_oddly, is_inside}
 use Rattle.arc_map.specs.Arranged.{IsMapArranged}
@@ -14,7 +11,6 @@ use Rattle.arc_map.specs.Paths.{IsAllowedPair, vertices_at, Step, AreSteps}
 use Rattle.arc_map.specs.Edges.{is_arc_crossed_oddly, edges_of_all, EdgesAreArranged}
 use Rattle.arc_map.specs.Vertices.{Vertex, MeetLawfully}
 use Rattle.arc_map.specs.Chains.{Chain, chain_at, AreChains, IsClearIn, IsArrangedBeside, IsWithinBound, IsPathIn, thinned, is_crossed_oddly}
-use Rattle.monotone_split.specs.Sides.{IsSpanned, IsOutside, is_below}
 
 -- what stays where the chain number k of a map is thinned to the kept vertices
 pub record KeepsMap (chains : List Chain) (points : List Place) (k : ℕ) (kept : List Vertex) : Type 0 where
@@ -38,35 +34,6 @@ ReplacementKeepsMap = (wx wy bound : ℤ) (chains : List Chain) (points : List P
 -- The same for a path of allowed pairs by the numbers of the vertices, from 0 to the last.
 abbrev pub PathByNumbersKeepsMap : Type 0
 PathByNumbersKeepsMap = (wx wy bound : ℤ) (chains : List Chain) (points : List Place) (k : ℕ) (numbers : List ℕ) → k < length chains → AreChains chains → IsClearIn chains points k → LeadsTo (IsAllowedPair (IsWithinBound wx wy bound) chains points k) (length (chain_at chains k).rest) 0 numbers → KeepsMap chains points k (vertices_at (chain_at chains k) numbers)
-
--- what is told by an edge of a run that spans p
-pub record TellsSide (frame : Frame) (v : Place) (ws : List Place) (p a b : Place) : Type 0 where
-  -- the closed walk along the run and back is crossed an odd number of times exactly where p is below
-  -- one of the run and the segment between its ends
-  pub closed : is_odd (count_edges (is_crossed p) v (ws ++ v ∷ [])) ≡ differ (is_below frame p a b) (is_below frame p v (end_of v ws))
-  -- no other edge of the run spans p
-  pub only : (c d : Place) → IsEdgeOf v ws c d → IsSpanned frame c d p → (c ≡ a) × (d ≡ b)
-
--- A point on no edge of a monotone run and not on the segment between its ends: an edge of the run that
--- spans it tells its side.
-abbrev pub SpanningEdgeTells : Type 0
-SpanningEdgeTells = (frame : Frame) (v : Place) (ws : List Place) (p a b : Place) → IsMonotone frame v ws → IsOff p v (ws ++ v ∷ []) → IsEdgeOf v ws a b → IsSpanned frame a b p → TellsSide frame v ws p a b
-
--- an edge of the run that spans p
-pub record SpanningEdge (frame : Frame) (v : Place) (ws : List Place) (p : Place) : Type 0 where
-  pub start : Place
-  pub end : Place
-  pub edge : IsEdgeOf v ws start end
-  pub spans : IsSpanned frame start end p
-
--- A point strictly between the ends of a monotone run and on no edge of it is spanned by an edge of it.
-abbrev pub SomeEdgeSpans : Type 0
-SomeEdgeSpans = (frame : Frame) (v : Place) (ws : List Place) (p : Place) → IsMonotone frame v ws → IsOff p v ws → IsSpanned frame v (end_of v ws) p → SpanningEdge frame v ws p
-
--- A point outside the span of a monotone run is on no edge of the closed walk along the run and back,
--- and the walk is crossed from it an even number of times.
-abbrev pub OutsideIsEven : Type 0
-OutsideIsEven = (frame : Frame) (v : Place) (ws : List Place) (p : Place) → IsMonotone frame v ws → IsOutside frame v (end_of v ws) p → IsOff p v (ws ++ v ∷ []) × (is_odd (count_edges (is_crossed p) v (ws ++ v ∷ [])) ≡ false)
 
 -- A map is arranged beside held arcs by the names of its edges exactly where it is by the list of its edges.
 abbrev pub ArrangedByNames : Type 0
