@@ -1,66 +1,38 @@
 -- A node stands for one tree only: the one that its number gives.
-use Rattle.std.proofs.Common.{◌<◌, ◌≡◌, ℕ, zero, suc, ◌+◌, ◌*◌, ◌≤◌, List, [], ◌∷◌, length, drop, Option, Some, None, refl, sym, ap, subst, ◌∙◌, arith}
+use Rattle.std.proofs.Common.{◌<◌, ◌≡◌, ℕ, zero, suc, ◌+◌, ◌*◌, ◌≤◌, List, [], ◌∷◌, length, drop, Option, Some, refl, sym, ap, subst, ◌∙◌, arith}
 use Rattle.std.specs.List.{AllByRecursion}
-use Rattle.std.proofs.Common.{Bool, inl, inr, true, false, not, nat_eq, ◌&&◌, eqb, nat_le}
-use Rattle.std.proofs.lemmas.Bool.{cond-true, cond-false, cases_Bool, eqb-true, ne_eqb, eq-eqb, and_parts}
-use Rattle.json_scan.specs.Bytes.{is_escape}
+use Rattle.std.proofs.Common.{inl, inr, true, false, nat_eq, bytes_eq}
+use Rattle.std.proofs.lemmas.Bool.{cond-true, cond-false, cases_Bool, eqb-true, ne_eqb, eq-eqb}
 use Rattle.json_scan.specs.declared.node.Kind.{Kind}
 use Rattle.json_scan.specs.declared.node.Kind.TheVariants as kind
 use Rattle.json_scan.specs.declared.whole.Whole.{Whole}
-use Rattle.json_scan.specs.Grammar.{Piece, Plain, Escaped, Unicode, IsPiece, piece_then, pieces_then, quoted_then}
+use Rattle.json_scan.specs.Grammar.{Piece, IsPiece, piece_then, pieces_then, quoted_then}
 use Rattle.json_scan.specs.Whole.{read_whole}
-use Rattle.json_scan.specs.View.{ScanView, symbol, symbols, read_symbol}
-use Rattle.json_scan.specs.Tree.{lookup, Lookup, NowhereIn, OnceIn, TwiceIn, Extent, Tree, NullAt, FalseAt, TrueAt, NumberAt, TextAt, ListAt, ObjectAt, Trees, NoTrees, NextTree, Entries, NoEntries, NextEntry, kind_of, extent_of, place_of, node_at, after_at, IsNode, SpellsText, NodeIs, NodesAre, EntriesAre, HasTree}
-use Rattle.json_scan.specs.declared.view.Found.{Found}
-use Rattle.json_scan.specs.declared.view.Found.TheVariants.{Absent, Once, Twice}
-use Rattle.json_scan.specs.Finds.{HasItems, HasEntries, Finds}
-use Rattle.json_scan.proofs.Nodes.{tree-node, number-spelled, text-spelled}
-use Rattle.json_scan.proofs.Items.{nodes-rise, item-here, no_item, list-here, list-items, number-here, has-next, kind-here}
-use Rattle.json_scan.proofs.Members.{entries-rise, entry-here, no_entry, below}
-use Rattle.json_scan.proofs.Wholes.{whole-law}
-use Rattle.std.specs.Prelude.{bytes_eq}
+use Rattle.json_scan.specs.View.{ScanView, symbol, symbols}
+use Rattle.json_scan.specs.Tree.{Extent, Tree, NullAt, FalseAt, TrueAt, NumberAt, TextAt, ListAt, ObjectAt, Trees, NoTrees, NextTree, Entries, NoEntries, NextEntry}
+use Rattle.json_scan.specs.Tree.{kind_of, extent_of, node_at, after_at, IsNode, SpellsText, NodeIs, NodesAre, EntriesAre, HasTree}
+use Rattle.json_scan.specs.Tree.{named, at_first, at_second, lookup, NowhereIn, OnceIn, TwiceIn}
+use Rattle.json_scan.specs.Left.{HasItems, HasEntries}
 use Rattle.json_scan.specs.Parts.{is_text, members_in, items_in, number_in, are_few}
 use Rattle.json_scan.specs.TreeAt.{place_at, bytes_at, read_word, word_from, word_of, word_at, shaped, tree_by, trees_by, entries_by, tree_of, trees_of, entries_of}
+use Rattle.json_scan.proofs.Nodes.{tree-node, number-spelled, text-spelled}
+use Rattle.json_scan.proofs.Items.{nodes-rise, item-here, no_item, has-next}
+use Rattle.json_scan.proofs.Members.{entries-rise, entry-here, no_entry, below}
+use Rattle.json_scan.proofs.Means.{piece-reads, piece-drop, piece-long, piece-wide}
+use Rattle.json_scan.proofs.Wholes.{whole-law}
 
 -- ---- texts
-
-abbrev width : Piece → ℕ
-width (Plain b) = 1
-width (Escaped b) = 2
-width (Unicode a b c d) = 6
-
-piece-drop : (p : Piece) (rest : List ℕ) → drop (width p) (piece_then p rest) ≡ rest
-piece-drop (Plain b) rest = refl
-piece-drop (Escaped b) rest = refl
-piece-drop (Unicode a b c d) rest = refl
-
-piece-long : (p : Piece) (rest : List ℕ) → 1 + length rest ≤ length (piece_then p rest)
-piece-long (Plain b) rest = omega arith
-piece-long (Escaped b) rest = omega arith
-piece-long (Unicode a b c d) rest = omega arith
-
-not_true : (b : Bool) → not b ≡ true → b ≡ false
-not_true true h = absurd cc
-not_true false h = refl
-
-piece-reads : (p : Piece) (rest : List ℕ) → IsPiece p → read_symbol (piece_then p rest) ≡ Some (symbol p, width p)
-piece-reads (Plain b) rest fits =
-    let parts = and_parts (nat_le 32 b && not (eqb b 34)) (not (eqb b 92)) fits in
-    let front = and_parts (nat_le 32 b) (not (eqb b 34)) parts.0 in
-    cond-false (eqb b 34) _ _ (not_true _ front.1) ∙ cond-false (eqb b 92) _ _ (not_true _ parts.1)
-piece-reads (Escaped b) rest fits = cond-false (eqb b 117) _ _ (ne_eqb b 117 (λ e. let w : is_escape 117 ≡ true = subst (λ (k : ℕ). is_escape k ≡ true) e fits in absurd cc))
-piece-reads (Unicode a b c d) rest fits = refl
 
 pieces-read : (n : ℕ) (ps : List Piece) → AllByRecursion IsPiece ps → length (pieces_then ps (34 ∷ [])) ≤ n → read_word n (pieces_then ps (34 ∷ [])) ≡ symbols ps
 unfolding read_word
 pieces-read zero [] fits le = refl
 pieces-read (suc n) [] fits le = refl
-pieces-read zero (p ∷ ps) fits le = absurd (omega (arith, le, piece-long p (pieces_then ps (34 ∷ []))))
+pieces-read zero (p ∷ ps) fits le = absurd (omega (arith, le, piece-long p (pieces_then ps (34 ∷ [])), piece-wide p))
 pieces-read (suc n) (p ∷ ps) fits le =
     let rest = pieces_then ps (34 ∷ []) in
     ap (λ (o : Option (ℕ × ℕ)). word_from o (λ (w : ℕ). read_word n (drop w (piece_then p rest)))) (piece-reads p rest fits.0)
     ∙ ap (λ (l : List ℕ). symbol p ∷ read_word n l) (piece-drop p rest)
-    ∙ ap (λ (l : List ℕ). symbol p ∷ l) (pieces-read n ps fits.1 (omega (arith, le, piece-long p rest)))
+    ∙ ap (λ (l : List ℕ). symbol p ∷ l) (pieces-read n ps fits.1 (omega (arith, le, piece-long p rest, piece-wide p)))
 
 word-is : (s : ScanView) (k : ℕ) (e : Extent) (word : List ℕ) → IsNode s k kind.Text e → SpellsText s e word → word_of (bytes_at s k) ≡ word
 word-is s k e word node spells =
@@ -142,18 +114,82 @@ tree-here s k has = subst (NodeIs s k) (sym (tree-is s k has.0 has.1)) has.1
 pub trees-here : (s : ScanView) (k end : ℕ) → HasItems s k end → NodesAre s k end (trees_of s k end)
 trees-here s k end has = subst (NodesAre s k end) (sym (trees-are s k end has.0 has.1)) has.1
 
--- ---- what a node that was read tells of the tree
+-- ---- a tree by the kind of its node
 
-pub start-is : (s : ScanView) (k at : ℕ) → HasTree s k → at ≡ (node_at s k).start → at ≡ place_of (tree_of s k)
-start-is s k at has e = e ∙ (tree-node s k _ (tree-here s k has)).its_start
+pub record HasShape (s : ScanView) (k : ℕ) (a : Kind) : Type 0 where
+  pub trees : Trees
+  pub members : Entries
+  pub is : tree_of s k ≡ shaped a (place_at s k) (read_whole (bytes_at s k)) (word_at s k) trees members
 
-pub kind-is : (s : ScanView) (k : ℕ) (a : Kind) → HasTree s k → a ≡ (node_at s k).kind → a ≡ kind_of (tree_of s k)
-kind-is s k a has e = e ∙ (tree-node s k _ (tree-here s k has)).its_kind
+shape-by : (n : ℕ) (s : ScanView) (k : ℕ) (a : Kind) → 0 < n → (node_at s k).kind ≡ a
+    → (trees : Trees) × (members : Entries) × (tree_by n s k ≡ shaped a (place_at s k) (read_whole (bytes_at s k)) (word_at s k) trees members)
+unfolding tree_by
+shape-by zero s k a some e = absurd (omega (arith, some))
+shape-by (suc n) s k a some e =
+    let trees = trees_by n s (k + 1) (after_at s k) in
+    let members = entries_by n s (k + 1) (after_at s k) in
+    (trees, members, ap (λ (b : Kind). shaped b (place_at s k) (read_whole (bytes_at s k)) (word_at s k) trees members) e)
 
-pub end-is : (s : ScanView) (k at : ℕ) → HasTree s k → at ≡ (node_at s k).end → at ≡ (extent_of (tree_of s k)).end
-end-is s k at has e = e ∙ (tree-node s k _ (tree-here s k has)).its_end
+pub shape-of : (s : ScanView) (k : ℕ) (a : Kind) → k < length s.nodes → (node_at s k).kind ≡ a → HasShape s k a
+unfolding tree_of
+shape-of s k a within e =
+    let h = shape-by (2 * length s.nodes) s k a (omega (arith, within)) e in
+    record { trees = h.0; members = h.1; is = h.2 }
 
--- ---- from one value to the next
+shape-place : (a : Kind) (e : Extent) (whole : Whole) (word : List ℕ) (trees : Trees) (members : Entries) → extent_of (shaped a e whole word trees members) ≡ e
+shape-place kind.Null e whole word trees members = refl
+shape-place kind.False e whole word trees members = refl
+shape-place kind.True e whole word trees members = refl
+shape-place kind.Number e whole word trees members = refl
+shape-place kind.Text e whole word trees members = refl
+shape-place kind.List e whole word trees members = refl
+shape-place kind.Object e whole word trees members = refl
+
+shape-kind : (a : Kind) (e : Extent) (whole : Whole) (word : List ℕ) (trees : Trees) (members : Entries) → kind_of (shaped a e whole word trees members) ≡ a
+shape-kind kind.Null e whole word trees members = refl
+shape-kind kind.False e whole word trees members = refl
+shape-kind kind.True e whole word trees members = refl
+shape-kind kind.Number e whole word trees members = refl
+shape-kind kind.Text e whole word trees members = refl
+shape-kind kind.List e whole word trees members = refl
+shape-kind kind.Object e whole word trees members = refl
+
+pub extent-is : (s : ScanView) (k : ℕ) → k < length s.nodes → place_at s k ≡ extent_of (tree_of s k)
+extent-is s k within =
+    let h = shape-of s k (node_at s k).kind within refl in
+    sym (ap extent_of h.is ∙ shape-place (node_at s k).kind (place_at s k) (read_whole (bytes_at s k)) (word_at s k) h.trees h.members)
+
+pub kind-is : (s : ScanView) (k : ℕ) → k < length s.nodes → (node_at s k).kind ≡ kind_of (tree_of s k)
+kind-is s k within =
+    let h = shape-of s k (node_at s k).kind within refl in
+    sym (ap kind_of h.is ∙ shape-kind (node_at s k).kind (place_at s k) (read_whole (bytes_at s k)) (word_at s k) h.trees h.members)
+
+pub number-some : (s : ScanView) (k : ℕ) → k < length s.nodes → (node_at s k).kind ≡ kind.Number → Some (read_whole (bytes_at s k)) ≡ number_in (tree_of s k)
+number-some s k within a = sym (ap number_in (shape-of s k kind.Number within a).is)
+
+pub text-same : (s : ScanView) (k : ℕ) (word : List ℕ) → k < length s.nodes → (node_at s k).kind ≡ kind.Text → bytes_eq (word_at s k) word ≡ is_text word (tree_of s k)
+text-same s k word within a = sym (ap (is_text word) (shape-of s k kind.Text within a).is)
+
+-- the bytes of a Text are those of pieces, which mean its word
+pub text-pieces : (s : ScanView) (k : ℕ) → HasTree s k → k < length s.nodes → (node_at s k).kind ≡ kind.Text → (ps : List Piece) × AllByRecursion IsPiece ps × (bytes_at s k ≡ quoted_then ps []) × (symbols ps ≡ word_at s k)
+text-pieces s k has within a =
+    let is : NodeIs s k (TextAt (place_at s k) (word_at s k)) = subst (NodeIs s k) (shape-of s k kind.Text within a).is (tree-here s k has) in
+    text-spelled s k (place_at s k) (word_at s k) (bytes_at s k) refl is.0 is.1
+
+-- ---- from one value of a List to the next
+
+pub record IsListHere (s : ScanView) (k : ℕ) : Type 0 where
+  pub has : HasItems s (k + 1) (after_at s k)
+  pub some : Some (trees_of s (k + 1) (after_at s k)) ≡ items_in (tree_of s k)
+
+pub list-here : (s : ScanView) (k : ℕ) → HasTree s k → k < length s.nodes → (node_at s k).kind ≡ kind.List → IsListHere s k
+list-here s k has within a =
+    let h = shape-of s k kind.List within a in
+    let is : NodeIs s k (ListAt (place_at s k) h.trees) = subst (NodeIs s k) h.is (tree-here s k has) in
+    record {
+      has = (h.trees, is.1);
+      some = ap (λ (ts : Trees). Some ts) (trees-are s (k + 1) (after_at s k) h.trees is.1) ∙ sym (ap items_in h.is);
+    }
 
 pub rest-none : (s : ScanView) (at end : ℕ) → HasItems s at end → at ≡ end → trees_of s at end ≡ NoTrees
 rest-none s at end has e = no_item s at end _ (trees-here s at end has) e
@@ -166,30 +202,6 @@ rest-next s at end next has other e =
     ∙ ap (λ (ts : Trees). NextTree (tree_of s at) ts) (sym (trees-are s (after_at s at) end item.others item.others_are))
     ∙ ap (λ (k : ℕ). NextTree (tree_of s at) (trees_of s k end)) (sym e)
 
--- ---- what a value holds
-
-pub no-items : (s : ScanView) (k : ℕ) (t : Tree) → NodeIs s k t → ((node_at s k).kind ≡ kind.List → ⊥) → items_in t ≡ None
-no-items s k (NullAt e) is other = refl
-no-items s k (FalseAt e) is other = refl
-no-items s k (TrueAt e) is other = refl
-no-items s k (NumberAt e whole) is other = refl
-no-items s k (TextAt e word) is other = refl
-no-items s k (ListAt e ts) is other = absurd (other is.0.its_kind)
-no-items s k (ObjectAt e members) is other = refl
-
-pub items-none : (s : ScanView) (k : ℕ) → HasTree s k → ((node_at s k).kind ≡ kind.List → ⊥) → None ≡ items_in (tree_of s k)
-items-none s k has other = sym (no-items s k _ (tree-here s k has) other)
-
-pub items-some : (s : ScanView) (k end : ℕ) → HasTree s k → (node_at s k).kind ≡ kind.List → end ≡ after_at s k → Some (trees_of s (k + 1) end) ≡ items_in (tree_of s k)
-items-some s k end has a e =
-    let list = list-here s k _ (tree-here s k has) a in
-    ap (λ (ts : Trees). Some ts) (trees-are s (k + 1) end list.trees (list-items s k end _ list e)) ∙ sym (ap items_in list.parts)
-
-pub number-some : (s : ScanView) (k : ℕ) (r : Whole) → HasTree s k → (node_at s k).kind ≡ kind.Number → ((e : Extent) → (w : Whole) → NodeIs s k (NumberAt e w) → r ≡ w) → Some r ≡ number_in (tree_of s k)
-number-some s k r has a reads =
-    let number = number-here s k _ (tree-here s k has) a in
-    ap (λ (w : Whole). Some w) (reads number.place number.whole number.is) ∙ sym (ap number_in number.parts)
-
 few-behind : (s : ScanView) (at end : ℕ) (t : Tree) → HasItems s at end → nat_eq at end ≡ are_few (NextTree t (trees_of s at end))
 few-behind s at end t has = elim (cases_Bool (nat_eq at end)) [
   | inl same ↦ same ∙ sym (ap (λ (ts : Trees). are_few (NextTree t ts)) (rest-none s at end has (eqb-true at end same)))
@@ -201,42 +213,22 @@ pub few-next : (s : ScanView) (at end next : ℕ) → HasItems s at end → (at 
 few-next s at end next has other e =
     few-behind s next end (tree_of s at) (has-next s at end next has other e) ∙ sym (ap are_few (rest-next s at end next has other e))
 
-pub text-same : (s : ScanView) (k : ℕ) (word : List ℕ) (r : Bool) → HasTree s k → (node_at s k).kind ≡ kind.Text → ((e : Extent) → (text : List ℕ) → NodeIs s k (TextAt e text) → r ≡ bytes_eq text word) → r ≡ is_text word (tree_of s k)
-text-same s k word r has a reads = at_case (tree_of s k) (tree-here s k has)
-  where
-    at_case : (t : Tree) → NodeIs s k t → r ≡ is_text word t
-    at_case (NullAt e) is = let h = kind-here s k (NullAt e) kind.Text is a in absurd cc
-    at_case (FalseAt e) is = let h = kind-here s k (FalseAt e) kind.Text is a in absurd cc
-    at_case (TrueAt e) is = let h = kind-here s k (TrueAt e) kind.Text is a in absurd cc
-    at_case (NumberAt e whole) is = let h = kind-here s k (NumberAt e whole) kind.Text is a in absurd cc
-    at_case (TextAt e text) is = reads e text is
-    at_case (ListAt e ts) is = let h = kind-here s k (ListAt e ts) kind.Text is a in absurd cc
-    at_case (ObjectAt e ms) is = let h = kind-here s k (ObjectAt e ms) kind.Text is a in absurd cc
+-- ---- from one member of an Object to the next
 
-pub record IsObjectHere (s : ScanView) (k : ℕ) (t : Tree) : Type 0 where
-  pub place : Extent
-  pub members : Entries
-  pub parts : t ≡ ObjectAt place members
-  pub is : NodeIs s k (ObjectAt place members)
-  pub same : entries_of s (k + 1) (after_at s k) ≡ members
+pub record IsObjectHere (s : ScanView) (k : ℕ) : Type 0 where
+  pub has : HasEntries s (k + 1) (after_at s k)
+  pub some : Some (tree_of s k, entries_of s (k + 1) (after_at s k)) ≡ members_in (tree_of s k)
 
-pub object-here : (s : ScanView) (k : ℕ) (t : Tree) → NodeIs s k t → (node_at s k).kind ≡ kind.Object → IsObjectHere s k t
-object-here s k (NullAt e) is a = let h = kind-here s k (NullAt e) kind.Object is a in absurd cc
-object-here s k (FalseAt e) is a = let h = kind-here s k (FalseAt e) kind.Object is a in absurd cc
-object-here s k (TrueAt e) is a = let h = kind-here s k (TrueAt e) kind.Object is a in absurd cc
-object-here s k (NumberAt e whole) is a = let h = kind-here s k (NumberAt e whole) kind.Object is a in absurd cc
-object-here s k (TextAt e word) is a = let h = kind-here s k (TextAt e word) kind.Object is a in absurd cc
-object-here s k (ListAt e trees) is a = let h = kind-here s k (ListAt e trees) kind.Object is a in absurd cc
-object-here s k (ObjectAt e members) is a = record { place = e; members = members; parts = refl; is = is; same = entries-are s (k + 1) (after_at s k) members is.1 }
-
-pub members-some : (s : ScanView) (k : ℕ) → HasTree s k → (node_at s k).kind ≡ kind.Object → Some (tree_of s k, entries_of s (k + 1) (after_at s k)) ≡ members_in (tree_of s k)
-members-some s k has a =
-    let h = object-here s k _ (tree-here s k has) a in
-    ap (λ (t : Tree). Some (t, entries_of s (k + 1) (after_at s k))) h.parts
-    ∙ ap (λ (ms : Entries). Some (ObjectAt h.place h.members, ms)) h.same
-    ∙ sym (ap members_in h.parts)
-
--- ---- from one member to the next
+pub object-here : (s : ScanView) (k : ℕ) → HasTree s k → k < length s.nodes → (node_at s k).kind ≡ kind.Object → IsObjectHere s k
+object-here s k has within a =
+    let h = shape-of s k kind.Object within a in
+    let is : NodeIs s k (ObjectAt (place_at s k) h.members) = subst (NodeIs s k) h.is (tree-here s k has) in
+    record {
+      has = (h.members, is.1);
+      some = ap (λ (t : Tree). Some (t, entries_of s (k + 1) (after_at s k))) h.is
+          ∙ ap (λ (ms : Entries). Some (ObjectAt (place_at s k) h.members, ms)) (entries-are s (k + 1) (after_at s k) h.members is.1)
+          ∙ sym (ap members_in h.is);
+    }
 
 entries-here : (s : ScanView) (k end : ℕ) → HasEntries s k end → EntriesAre s k end (entries_of s k end)
 entries-here s k end has = subst (EntriesAre s k end) (sym (entries-are s k end has.0 has.1)) has.1
@@ -247,6 +239,8 @@ entries-none s at end has e = no_entry s end _ (subst (λ (k : ℕ). EntriesAre 
 pub record IsNextEntry (s : ScanView) (at end next : ℕ) : Type 0 where
   pub parts : entries_of s at end ≡ NextEntry (place_at s at) (word_at s at) (tree_of s (at + 1)) (entries_of s next end)
   pub has : HasEntries s next end
+  pub name_within : at < length s.nodes
+  pub name_kind : (node_at s at).kind ≡ kind.Text
   pub within : at + 1 < length s.nodes
   pub further : at + 1 < next
   pub before_end : next ≤ end
@@ -263,40 +257,44 @@ entries-next s at end next has other e =
           ∙ ap (λ (ms : Entries). NextEntry (place_at s at) (word_at s at) (tree_of s (at + 1)) ms) (sym (entries-are s (after_at s (at + 1)) end h.others h.others_are))
           ∙ ap (λ (k : ℕ). NextEntry (place_at s at) (word_at s at) (tree_of s (at + 1)) (entries_of s k end)) (sym e);
       has = (h.others, subst (λ (k : ℕ). EntriesAre s k end h.others) (sym e) h.others_are);
+      name_within = h.name_node.within;
+      name_kind = h.name_node.its_kind;
       within = h.within;
       further = omega (arith, e, h.further);
       before_end = omega (arith, e, h.before_end);
     }
 
--- ---- what is found among members
+-- ---- looking for a member
 
-pub found-none : (s : ScanView) (l : Lookup) → Finds s Absent l → NowhereIn ≡ l
-found-none s NowhereIn finds = refl
-found-none s (OnceIn t) finds = absurd finds
-found-none s (TwiceIn e) finds = absurd finds
+pub named-here : (s : ScanView) (name : List ℕ) (at end : ℕ) → HasEntries s at end → (at ≡ end → ⊥) → bytes_eq (word_at s at) name ≡ true → entries_of s at end ≡ named name (entries_of s at end)
+named-here s name at end has other same =
+    let here = (entries-next s at end _ has other refl).parts in
+    here ∙ sym (ap (named name) here ∙ cond-true (bytes_eq (word_at s at) name) _ _ same)
 
-pub found-once : (s : ScanView) (k : ℕ) (l : Lookup) → Finds s (Once k) l → OnceIn (tree_of s k) ≡ l
-found-once s k NowhereIn finds = absurd finds
-found-once s k (OnceIn t) finds = ap (λ (u : Tree). OnceIn u) (tree-is s k t finds)
-found-once s k (TwiceIn e) finds = absurd finds
+pub named-later : (s : ScanView) (name : List ℕ) (at end next : ℕ) → HasEntries s at end → (at ≡ end → ⊥) → next ≡ after_at s (at + 1) → bytes_eq (word_at s at) name ≡ false → named name (entries_of s at end) ≡ named name (entries_of s next end)
+named-later s name at end next has other e differs = ap (named name) (entries-next s at end next has other e).parts ∙ cond-false (bytes_eq (word_at s at) name) _ _ differs
 
-pub found-twice : (s : ScanView) (k : ℕ) (l : Lookup) → Finds s (Twice k) l → TwiceIn (place_at s k) ≡ l
-found-twice s k NowhereIn finds = absurd finds
-found-twice s k (OnceIn t) finds = absurd finds
-found-twice s k (TwiceIn e) finds = ap (λ (p : Extent). TwiceIn p) (place-is s k kind.Text e finds)
+pub named-end : (s : ScanView) (name : List ℕ) (at end : ℕ) → HasEntries s at end → at ≡ end → entries_of s at end ≡ named name (entries_of s at end)
+named-end s name at end has e = entries-none s at end has e ∙ sym (ap (named name) (entries-none s at end has e))
 
-pub found-here : (s : ScanView) (k n : ℕ) (name : List ℕ) (f : Found) → n ≡ k → HasTree s k → (node_at s k).kind ≡ kind.Object
-    → ((e : Extent) → (ms : Entries) → NodeIs s n (ObjectAt e ms) → Finds s f (lookup name ms)) → Finds s f (lookup name (entries_of s (k + 1) (after_at s k)))
-found-here s k n name f e has a finds =
-    let h = object-here s k _ (tree-here s k has) a in
-    subst (λ (ms : Entries). Finds s f (lookup name ms)) (sym h.same) (finds h.place h.members (subst (λ (i : ℕ). NodeIs s i (ObjectAt h.place h.members)) (sym e) h.is))
+pub lookup-none : (s : ScanView) (name : List ℕ) (from first end : ℕ) → HasEntries s first end → entries_of s first end ≡ named name (entries_of s from end) → first ≡ end → NowhereIn ≡ lookup name (entries_of s from end)
+lookup-none s name from first end has found e = ap (at_first name) (sym (entries-none s first end has e) ∙ found)
 
-pub once-within : (s : ScanView) (k : ℕ) (l : Lookup) → Finds s (Once k) l → k < length s.nodes
-once-within s k NowhereIn finds = absurd finds
-once-within s k (OnceIn t) finds = (tree-node s k t finds).within
-once-within s k (TwiceIn e) finds = absurd finds
+-- the name stands at `first`, and from `next` on it is looked for again
+lookup-again : (s : ScanView) (name : List ℕ) (from first next second end : ℕ) → HasEntries s first end → (first ≡ end → ⊥) → next ≡ after_at s (first + 1)
+    → entries_of s first end ≡ named name (entries_of s from end) → entries_of s second end ≡ named name (entries_of s next end)
+    → at_second (tree_of s (first + 1)) (entries_of s second end) ≡ lookup name (entries_of s from end)
+lookup-again s name from first next second end has other e found again =
+    ap (at_second (tree_of s (first + 1))) again ∙ ap (at_first name) (sym (entries-next s first end next has other e).parts ∙ found)
 
-pub twice-within : (s : ScanView) (k : ℕ) (l : Lookup) → Finds s (Twice k) l → k < length s.nodes
-twice-within s k NowhereIn finds = absurd finds
-twice-within s k (OnceIn t) finds = absurd finds
-twice-within s k (TwiceIn e) finds = finds.within
+pub lookup-once : (s : ScanView) (name : List ℕ) (from first next second end : ℕ) → HasEntries s first end → (first ≡ end → ⊥) → next ≡ after_at s (first + 1)
+    → entries_of s first end ≡ named name (entries_of s from end) → entries_of s second end ≡ named name (entries_of s next end) → HasEntries s second end → second ≡ end
+    → OnceIn (tree_of s (first + 1)) ≡ lookup name (entries_of s from end)
+lookup-once s name from first next second end has other e found again more gone =
+    ap (at_second (tree_of s (first + 1))) (sym (entries-none s second end more gone)) ∙ lookup-again s name from first next second end has other e found again
+
+pub lookup-twice : (s : ScanView) (name : List ℕ) (from first next second end : ℕ) → HasEntries s first end → (first ≡ end → ⊥) → next ≡ after_at s (first + 1)
+    → entries_of s first end ≡ named name (entries_of s from end) → entries_of s second end ≡ named name (entries_of s next end) → HasEntries s second end → (second ≡ end → ⊥)
+    → TwiceIn (place_at s second) ≡ lookup name (entries_of s from end)
+lookup-twice s name from first next second end has other e found again more stays =
+    ap (at_second (tree_of s (first + 1))) (sym (entries-next s second end _ more stays refl).parts) ∙ lookup-again s name from first next second end has other e found again

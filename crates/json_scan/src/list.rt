@@ -1,8 +1,7 @@
 //! The values of a List, from left to right.
 
 ghost use Rattle.json_scan.specs.Tree.{NoTrees, after_at};
-ghost use Rattle.json_scan.specs.Finds.{HasItems};
-ghost use Rattle.json_scan.specs.Left.{Left, trees, few_left};
+ghost use Rattle.json_scan.specs.Left.{Left, trees, few_left, HasItems};
 
 use crate::node::Kind;
 use crate::value::{Value, value_at};
@@ -18,8 +17,7 @@ pub struct Values<'a> {
 }
 
 impl<'a> Model for Values<'a> {
-    ghost use Rattle.json_scan.specs.Finds.{HasItems};
-    ghost use Rattle.json_scan.specs.Left.{Left};
+    ghost use Rattle.json_scan.specs.Left.{Left, HasItems};
 
     ghost Value = { Left };
 
@@ -48,9 +46,8 @@ impl<'a> Value<'a> {
 
 impl<'a> Values<'a> {
     ghost use Rattle.std.specs.Prelude.{◌≡◌};
-    ghost use Rattle.json_scan.specs.Left.{Left, trees};
+    ghost use Rattle.json_scan.specs.Left.{Left, trees, HasItems};
     ghost use Rattle.json_scan.specs.Parts.{are_few};
-    ghost use Rattle.json_scan.specs.Finds.{HasItems};
 
     fn new(scan: &'a Scan<'a>, at: u32, end: u32) -> Values<'a>
         requires { HasItems scan.now at end }

@@ -1,8 +1,7 @@
 //! The values of the members of an Object, from left to right.
 
 ghost use Rattle.json_scan.specs.Tree.{NoEntries, after_at};
-ghost use Rattle.json_scan.specs.Finds.{HasEntries};
-ghost use Rattle.json_scan.specs.Left.{Left, entries, few_left};
+ghost use Rattle.json_scan.specs.Left.{Left, entries, few_left, HasEntries};
 
 use crate::object::Object;
 use crate::value::{Value, value_at};
@@ -18,8 +17,7 @@ pub struct MemberValues<'a> {
 }
 
 impl<'a> Model for MemberValues<'a> {
-    ghost use Rattle.json_scan.specs.Finds.{HasEntries};
-    ghost use Rattle.json_scan.specs.Left.{Left};
+    ghost use Rattle.json_scan.specs.Left.{Left, HasEntries};
 
     ghost Value = { Left };
 
@@ -30,8 +28,7 @@ impl<'a> Model for MemberValues<'a> {
 
 impl<'a> MemberValues<'a> {
     ghost use Rattle.std.specs.Prelude.{◌≡◌};
-    ghost use Rattle.json_scan.specs.Left.{Left};
-    ghost use Rattle.json_scan.specs.Finds.{HasEntries};
+    ghost use Rattle.json_scan.specs.Left.{Left, HasEntries};
 
     fn new(scan: &'a Scan<'a>, at: u32, end: u32) -> MemberValues<'a>
         requires { HasEntries scan.now at end }

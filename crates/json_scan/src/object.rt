@@ -6,7 +6,6 @@ ghost use Rattle.json_scan.specs.declared.node.Kind.TheVariants as kind;
 
 use crate::node::Kind;
 use crate::value::{Value, value_at};
-use crate::view::Found;
 
 /// An Object, whose members can be looked for.
 #[derive(Clone, Copy)]
@@ -63,16 +62,22 @@ impl<'a> Object<'a> {
         ensures { found result ≡ lookup name.now (members self.entry) }
     {
         let value = self.value;
-        match value.scan.member(value.number(), name) {
-            Found::Absent => Member::Absent,
-            Found::Once(node) => Member::Once(value_at(value.scan, node)),
-            Found::Twice(node) => {
-                let name = value.scan.node(node);
-                Member::Twice {
-                    start: name.start,
-                    end: name.end,
-                }
-            }
+        let scan = value.scan;
+        let found = value.node();
+        let first = scan.first_named(value.node + 1, found.after, name);
+        if first == found.after {
+            return Member::Absent;
+        }
+        let node = first + 1;
+        let behind = scan.node(node).after;
+        let second = scan.first_named(behind, found.after, name);
+        if second == found.after {
+            return Member::Once(value_at(scan, node));
+        }
+        let again = scan.node(second);
+        Member::Twice {
+            start: again.start,
+            end: again.end,
         }
     }
 }

@@ -81,18 +81,9 @@ impl<'a> Value<'a> {
         ensures start { result.start ≡ place_of (tree self.entry) }
         ensures end { result.end ≡ (extent_of (tree self.entry)).end }
         ensures kind { result.kind ≡ kind_of (tree self.entry) }
-        ensures few { self.entry.node + 1 < 2 ^ 32 }
+        ensures few { length self.entry.scan.now.nodes < 2 ^ 32 }
         ensures stands { HasTree self.entry.scan.now self.entry.node }
     {
         self.scan.node(self.node)
-    }
-
-    /// The number of this value's node.
-    pub(crate) fn number(self) -> u32
-        ensures value { result ≡ self.entry.node }
-        ensures stands { HasTree self.entry.scan.now self.entry.node }
-    {
-        let _ = self.node();
-        self.node
     }
 }
