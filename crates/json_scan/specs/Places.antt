@@ -3,7 +3,9 @@ use Rattle.std.specs.Prelude.{◌≡◌, ℕ, zero, suc, ◌+◌, ◌-◌, ◌<�
 use Rattle.std.specs.Str.{IsUtf8, IsValidUpTo}
 use Rattle.json_scan.specs.declared.walk.ScanError.{ScanError}
 use Rattle.json_scan.specs.declared.walk.ScanError.TheVariants.{NotUtf8, NotJson, TooDeep, NoMemory}
-use Rattle.json_scan.specs.Grammar.{Value, Null, False, True, Number, Text, EmptyList, FullList, EmptyObject, FullObject, Items, LastItem, NextItem, Members, LastMember, NextMember, value_width, quoted_width, Document, IsDocument, document_text}
+use Rattle.json_scan.specs.Grammar.{Value, Null, False, True, Number, Text, EmptyList, FullList, EmptyObject, FullObject, Items, LastItem}
+use Rattle.json_scan.specs.Grammar.{NextItem, Members, LastMember, NextMember, value_width, quoted_width, Document, IsDocument}
+use Rattle.json_scan.specs.Grammar.{document_text}
 
 -- ---- the longest prefix that some JSON text begins with
 
@@ -47,7 +49,8 @@ abbrev mutual
   pub items_brackets : Items → ℕ → ℕ → List ℕ
   items_brackets (LastItem before v after) holders place = value_brackets v holders (place + length before)
   items_brackets (NextItem before v after items) holders place =
-      value_brackets v holders (place + length before) ++ items_brackets items holders (place + length before + value_width v + length after + 1)
+      value_brackets v holders (place + length before) ++ items_brackets items holders
+      (place + length before + value_width v + length after + 1)
 
   pub members_brackets : Members → ℕ → ℕ → List ℕ
   members_brackets (LastMember before name behind ahead v after) holders place =

@@ -1,4 +1,5 @@
--- The laws of the machine: each JSON text runs through it to its end, and where it stops is the longest prefix that some JSON text begins with.
+-- The laws of the machine: each JSON text runs through it to its end, and where it stops is the longest prefix that some JSON text begins
+-- with.
 use Rattle.std.specs.Prelude.{◌≡◌, ℕ, ◌<◌, ◌≤◌, ◌↔◌, ◌⊎◌, List, drop}
 use Rattle.std.specs.Str.{IsUtf8}
 use Rattle.json_scan.specs.declared.node.Node.{Node}
@@ -14,15 +15,18 @@ outcome_of limit text = run limit (before_value (text_start text)) (drop (text_s
 
 -- each document runs to its end, and leaves its nodes
 abbrev pub EachDocumentRuns : Type 0
-EachDocumentRuns = (limit : ℕ) (d : Document) → IsDocument d → value_depth d.value ≤ limit → outcome_of limit (document_text d) ≡ Whole (document_nodes d)
+EachDocumentRuns = (limit : ℕ) (d : Document) → IsDocument d → value_depth d.value ≤ limit
+    → outcome_of limit (document_text d) ≡ Whole (document_nodes d)
 
 -- what runs to its end is a document
 abbrev pub EachRunIsDocument : Type 0
-EachRunIsDocument = (limit : ℕ) (text : List ℕ) (nodes : List Node) → outcome_of limit text ≡ Whole nodes → (d : Document) × IsJson limit text nodes d
+EachRunIsDocument = (limit : ℕ) (text : List ℕ) (nodes : List Node) → outcome_of limit text ≡ Whole nodes
+    → (d : Document) × IsJson limit text nodes d
 
 -- the place where the machine stops, however many may be open, is the length of the longest prefix that some JSON text begins with
 abbrev pub StopsBehindLongest : Type 0
-StopsBehindLongest = (least : ℕ) (text : List ℕ) (at : ℕ) → IsUtf8 text → ((limit : ℕ) → least ≤ limit → outcome_of limit text ≡ Broken at) → IsLongestViable text at
+StopsBehindLongest = (least : ℕ) (text : List ℕ) (at : ℕ) → IsUtf8 text → ((limit : ℕ) → least ≤ limit → outcome_of limit text ≡ Broken at)
+    → IsLongestViable text at
 
 -- each text has such a prefix
 abbrev pub HasLongest : Type 0
@@ -33,7 +37,8 @@ LongestIsUnique = (text : List ℕ) (n m : ℕ) → IsLongestViable text n → I
 
 -- the first bracket of depth 65 in that prefix is where the machine stops if no more than 64 may be open
 abbrev pub StopsAtDeepBracket : Type 0
-StopsAtDeepBracket = (text : List ℕ) (n at : ℕ) → IsLongestViable text n → IsDeepBracket text n at ↔ ((at < n) × (outcome_of 64 text ≡ Broken at))
+StopsAtDeepBracket = (text : List ℕ) (n at : ℕ) → IsLongestViable text n
+    → IsDeepBracket text n at ↔ ((at < n) × (outcome_of 64 text ≡ Broken at))
 
 -- each text has nodes or is refused
 abbrev pub HasAnswer : Type 0
@@ -42,4 +47,5 @@ HasAnswer = (text : List ℕ) → ((nodes : List Node) × HasNodes text nodes) �
 -- a text is refused in one way at most, and in none if it has nodes
 abbrev pub RefusalsExclude : Type 0
 RefusalsExclude =
-    (text : List ℕ) (e : ScanError) → IsRefusedFor text e → ((f : ScanError) → IsRefusedFor text f → f ≡ e) × ((nodes : List Node) → ¬ (HasNodes text nodes))
+    (text : List ℕ) (e : ScanError) → IsRefusedFor text e
+    → ((f : ScanError) → IsRefusedFor text f → f ≡ e) × ((nodes : List Node) → ¬ (HasNodes text nodes))

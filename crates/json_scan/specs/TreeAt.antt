@@ -5,7 +5,8 @@ use Rattle.json_scan.specs.declared.node.Kind.TheVariants as kind
 use Rattle.json_scan.specs.declared.whole.Whole.{Whole}
 use Rattle.json_scan.specs.Whole.{read_whole}
 use Rattle.json_scan.specs.View.{ScanView, read_symbol}
-use Rattle.json_scan.specs.Tree.{Extent, Tree, NullAt, FalseAt, TrueAt, NumberAt, TextAt, ListAt, ObjectAt, Trees, NoTrees, NextTree, Entries, NoEntries, NextEntry, node_at, after_at}
+use Rattle.json_scan.specs.Tree.{Extent, Tree, NullAt, FalseAt, TrueAt, NumberAt, TextAt, ListAt, ObjectAt, Trees, NoTrees, NextTree}
+use Rattle.json_scan.specs.Tree.{Entries, NoEntries, NextEntry, node_at, after_at}
 
 abbrev pub place_at : ScanView → ℕ → Extent
 place_at s k = record { start = (node_at s k).start; end = (node_at s k).end }
@@ -41,7 +42,8 @@ unfoldable mutual
   pub tree_by : ℕ → ScanView → ℕ → Tree
   tree_by zero s k = NullAt (place_at s k)
   tree_by (suc n) s k =
-      shaped (node_at s k).kind (place_at s k) (read_whole (bytes_at s k)) (word_at s k) (trees_by n s (k + 1) (after_at s k)) (entries_by n s (k + 1) (after_at s k))
+      shaped (node_at s k).kind (place_at s k) (read_whole (bytes_at s k)) (word_at s k) (trees_by n s (k + 1) (after_at s k))
+      (entries_by n s (k + 1) (after_at s k))
 
   pub trees_by : ℕ → ScanView → ℕ → ℕ → Trees
   trees_by zero s k end = NoTrees
@@ -49,7 +51,8 @@ unfoldable mutual
 
   pub entries_by : ℕ → ScanView → ℕ → ℕ → Entries
   entries_by zero s k end = NoEntries
-  entries_by (suc n) s k end = if k == end then NoEntries else NextEntry (place_at s k) (word_at s k) (tree_by n s (k + 1)) (entries_by n s (after_at s (k + 1)) end)
+  entries_by (suc n) s k end = if k == end then NoEntries else NextEntry (place_at s k) (word_at s k) (tree_by n s (k + 1))
+      (entries_by n s (after_at s (k + 1)) end)
 
 -- the value of a node, and the values of the nodes up to an end
 unfoldable pub tree_of : ScanView → ℕ → Tree

@@ -10,7 +10,8 @@ use crate::view::Scan;
 
 /// The value that a text is.
 pub fn value_of<'a>(scan: &'a Scan<'_>) -> Value<'a>
-    ensures tree { (d : Document) → IsJson 64 scan.now.bytes scan.now.nodes d → tree result ≡ document_tree d }
+    ensures tree { (d : Document) → IsJson 64 scan.now.bytes scan.now.nodes d
+        → tree result ≡ document_tree d }
 
     // It stands in the text.
     ensures stands { NodeIs scan.now 0 (tree result) }

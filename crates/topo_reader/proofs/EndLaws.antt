@@ -1,5 +1,6 @@
 -- The ends of the arcs of a ring meet in pairs: each position is an even number of times an end.
-use Rattle.std.proofs.Common.{◌≡◌, ℕ, ◌+◌, ◌-◌, ◌<◌, ◌%◌, ◌^◌, Bool, true, false, ◌&&◌, Option, Some, None, List, [], ◌∷◌, ◌++◌, length, get_or, All, Ok, pos, negsuc, cond, refl, sym, ap, subst, ◌∙◌, arith}
+use Rattle.std.proofs.Common.{◌≡◌, ℕ, ◌+◌, ◌-◌, ◌<◌, ◌%◌, ◌^◌, Bool, true, false, ◌&&◌, Option, Some, None, List, [], ◌∷◌, ◌++◌, length}
+use Rattle.std.proofs.Common.{get_or, All, Ok, pos, negsuc, cond, refl, sym, ap, subst, ◌∙◌, arith}
 use Rattle.std.specs.Prelude.{slice_get, option_map}
 use Rattle.std.specs.Ordering.{int_eq}
 use Rattle.std.proofs.Math.Nat.{add_comm}
@@ -15,7 +16,8 @@ use Rattle.topo_reader.specs.declared.fault.What.TheVariants as what
 use Rattle.topo_reader.specs.declared.line.Step.{Step}
 use Rattle.topo_reader.specs.Sequence.{and_then, list_of}
 use Rattle.topo_reader.specs.Arcs.{same_place, last_of}
-use Rattle.topo_reader.specs.Geometries.{forwards, backwards, found_step, step_of, Line, no_line, or_else, is_same, joins, with_step, joined, line_from, closed, PolygonRead, ring_of}
+use Rattle.topo_reader.specs.Geometries.{forwards, backwards, found_step, step_of, Line, no_line, or_else, is_same, joins, with_step}
+use Rattle.topo_reader.specs.Geometries.{joined, line_from, closed, PolygonRead, ring_of}
 use Rattle.topo_reader.specs.Ends.{times_at, ends_at, named_ends, HasEvenEnds}
 use Rattle.topo_reader.proofs.ArcLaws.{not-ok, same-ok, then-ok, counted-ok}
 
@@ -50,25 +52,36 @@ arc-ends (p ∷ ps) is =
 some-same : (a b : List Place) → Some a ≡ Some b → a ≡ b
 some-same a b h = cc
 
-named-arc : (arcs : List (List Place)) (k : ℕ) (arc : List Place) → All IsArc arcs → slice_get arcs k ≡ Some arc → (arc ≡ get_or arcs k []) × IsArc arc
+named-arc : (arcs : List (List Place)) (k : ℕ) (arc : List Place) → All IsArc arcs → slice_get arcs k ≡ Some arc
+    → (arc ≡ get_or arcs k []) × IsArc arc
 named-arc arcs k arc every e =
     let within = slice_get_within arcs k arc e in
     let same = some-same arc (get_or arcs k []) (sym e ∙ slice_get-get_or arcs k [] within) in
     (same, subst IsArc (sym same) (every k [] within))
 
-forwards-ends : (arcs : List (List Place)) (k : ℕ) (arc : List Place) → All IsArc arcs → slice_get arcs k ≡ Some arc → StepEnds arcs (forwards k arc)
+forwards-ends : (arcs : List (List Place)) (k : ℕ) (arc : List Place) → All IsArc arcs → slice_get arcs k ≡ Some arc
+    → StepEnds arcs (forwards k arc)
 forwards-ends arcs k arc every e =
     let named = named-arc arcs k arc every e in
     let ends = arc-ends arc named.1 in
     record { start = ends.0; stop = ends.1; first_is = ends.2; last_is = ends.3; ends = λ p. ap (ends_at p) (sym named.0) }
 
-backwards-ends : (arcs : List (List Place)) (k : ℕ) (arc : List Place) → All IsArc arcs → slice_get arcs k ≡ Some arc → StepEnds arcs (backwards k arc)
+backwards-ends : (arcs : List (List Place)) (k : ℕ) (arc : List Place) → All IsArc arcs → slice_get arcs k ≡ Some arc
+    → StepEnds arcs (backwards k arc)
 backwards-ends arcs k arc every e =
     let named = named-arc arcs k arc every e in
     let ends = arc-ends arc named.1 in
-    record { start = ends.1; stop = ends.0; first_is = ends.3; last_is = ends.2; ends = λ p. ap (ends_at p) (sym named.0) ∙ add_comm (times_at p (slice_get arc 0)) (times_at p (last_of arc)) }
+    record {
+      start = ends.1;
+      stop = ends.0;
+      first_is = ends.3;
+      last_is = ends.2;
+      ends = λ p. ap (ends_at p) (sym named.0)
+          ∙ add_comm (times_at p (slice_get arc 0)) (times_at p (last_of arc));
+    }
 
-found-ends : (arcs : List (List Place)) (t : Tree) (k : ℕ) (make : ℕ → List Place → Step) → ((arc : List Place) → slice_get arcs k ≡ Some arc → StepEnds arcs (make k arc)) → (o : Option (List Place)) → slice_get arcs k ≡ o
+found-ends : (arcs : List (List Place)) (t : Tree) (k : ℕ) (make : ℕ → List Place → Step)
+    → ((arc : List Place) → slice_get arcs k ≡ Some arc → StepEnds arcs (make k arc)) → (o : Option (List Place)) → slice_get arcs k ≡ o
     → (step : Step) → found_step t (option_map (make k) o) ≡ Ok step → StepEnds arcs step
 found-ends arcs t k make ends None e step h = not-ok _ step h
 found-ends arcs t k make ends (Some arc) e step h = subst (StepEnds arcs) (same-ok (make k arc) step h) (ends arc e)
@@ -76,8 +89,12 @@ found-ends arcs t k make ends (Some arc) e step h = subst (StepEnds arcs) (same-
 step-ends : (arcs : List (List Place)) (t : Tree) (step : Step) → All IsArc arcs → step_of arcs t ≡ Ok step → StepEnds arcs step
 step-ends arcs (NumberAt e whole.NotWhole) step every h = not-ok _ step h
 step-ends arcs (NumberAt e whole.Beyond) step every h = not-ok _ step h
-step-ends arcs (NumberAt e (whole.Value (pos k))) step every h = found-ends arcs (NumberAt e (whole.Value (pos k))) k forwards (λ arc is. forwards-ends arcs k arc every is) (slice_get arcs k) refl step h
-step-ends arcs (NumberAt e (whole.Value (negsuc k))) step every h = found-ends arcs (NumberAt e (whole.Value (negsuc k))) k backwards (λ arc is. backwards-ends arcs k arc every is) (slice_get arcs k) refl step h
+step-ends arcs (NumberAt e (whole.Value (pos k))) step every h =
+    found-ends arcs (NumberAt e (whole.Value (pos k))) k forwards (λ arc is. forwards-ends arcs k arc every is)
+    (slice_get arcs k) refl step h
+step-ends arcs (NumberAt e (whole.Value (negsuc k))) step every h =
+    found-ends arcs (NumberAt e (whole.Value (negsuc k))) k backwards (λ arc is. backwards-ends arcs k arc every is)
+    (slice_get arcs k) refl step h
 step-ends arcs (NullAt e) step every h = not-ok _ step h
 step-ends arcs (FalseAt e) step every h = not-ok _ step h
 step-ends arcs (TrueAt e) step every h = not-ok _ step h
@@ -102,7 +119,8 @@ abbrev IsEvenLine : List (List Place) → Line → Type 0
 IsEvenLine arcs line = IsEven arcs line.first line.last line.numbers
 
 are-both : (first last : Option Place) (start stop : Place) → first ≡ Some start → last ≡ Some stop → AreBoth first last
-are-both first last start stop e f = subst (λ (o : Option Place). AreBoth o last) (sym e) (subst (λ (o : Option Place). AreBoth (Some start) o) (sym f) tt)
+are-both first last start stop e f = subst (λ (o : Option Place). AreBoth o last) (sym e)
+    (subst (λ (o : Option Place). AreBoth (Some start) o) (sym f) tt)
 
 stays-even : (n f l a b total : ℕ) → (n + f + l) % 2 ≡ 0 → l ≡ a → total ≡ n + (a + b) → (total + f + b) % 2 ≡ 0
 stays-even n f l a b total h e t = omega (arith, h, e, t)
@@ -113,12 +131,14 @@ begins-even n a b total h t = omega (arith, h, t)
 ends-even : (n f l : ℕ) → (n + f + l) % 2 ≡ 0 → l ≡ f → n % 2 ≡ 0
 ends-even n f l h e = omega (arith, h, e)
 
-step-added : (arcs : List (List Place)) (numbers : List ℕ) (first last : Option Place) (step : Step) → StepEnds arcs step → IsEven arcs first last numbers → joins last step.first ≡ true
+step-added : (arcs : List (List Place)) (numbers : List ℕ) (first last : Option Place) (step : Step) → StepEnds arcs step
+    → IsEven arcs first last numbers → joins last step.first ≡ true
     → IsEven arcs (or_else first step.first) step.last (numbers ++ step.arc ∷ [])
 step-added arcs numbers None None step ends is fits = record {
   both = are-both step.first step.last ends.start ends.stop ends.first_is ends.last_is;
   even = λ p.
-      begins-even (named_ends arcs p numbers) (times_at p step.first) (times_at p step.last) (named_ends arcs p (numbers ++ step.arc ∷ [])) (is.even p)
+      begins-even (named_ends arcs p numbers) (times_at p step.first) (times_at p step.last) (named_ends arcs p (numbers ++ step.arc ∷ []))
+      (is.even p)
       (sum_by_push (λ k. ends_at p (get_or arcs k [])) numbers step.arc ∙ ap (λ (m : ℕ). named_ends arcs p numbers + m) (ends.ends p));
 }
 step-added arcs numbers None (Some l) step ends is fits = absurd is.both
@@ -129,11 +149,13 @@ step-added arcs numbers (Some f) (Some l) step ends is fits =
       both = are-both (Some f) step.last f ends.stop refl ends.last_is;
       even = λ p.
           let meets : times_at p (Some l) ≡ times_at p step.first = same-times p l ends.start same ∙ ap (times_at p) (sym ends.first_is) in
-          stays-even (named_ends arcs p numbers) (times_at p (Some f)) (times_at p (Some l)) (times_at p step.first) (times_at p step.last) (named_ends arcs p (numbers ++ step.arc ∷ [])) (is.even p) meets
+          stays-even (named_ends arcs p numbers) (times_at p (Some f)) (times_at p (Some l)) (times_at p step.first) (times_at p step.last)
+          (named_ends arcs p (numbers ++ step.arc ∷ [])) (is.even p) meets
           (sum_by_push (λ k. ends_at p (get_or arcs k [])) numbers step.arc ∙ ap (λ (m : ℕ). named_ends arcs p numbers + m) (ends.ends p));
     }
 
-joined-fits : (t : Tree) (line : Line) (step : Step) (after : Line) → joined t line step ≡ Ok after → (joins line.last step.first ≡ true) × (with_step line step ≡ after)
+joined-fits : (t : Tree) (line : Line) (step : Step) (after : Line) → joined t line step ≡ Ok after
+    → (joins line.last step.first ≡ true) × (with_step line step ≡ after)
 joined-fits t line step after h = at_case (joins line.last step.first) refl
   where
     at_case : (b : Bool) → joins line.last step.first ≡ b → (joins line.last step.first ≡ true) × (with_step line step ≡ after)
@@ -147,7 +169,8 @@ closed-fits t line after h = at_case (is_same line.last line.first) refl
     at_case true e = (e, same-ok line after (sym (cond-true (is_same line.last line.first) _ _ e) ∙ h))
     at_case false e = not-ok _ after (sym (cond-false (is_same line.last line.first) _ _ e) ∙ h)
 
-line-even : (arcs : List (List Place)) → All IsArc arcs → (trees : Trees) (before after : Line) → IsEvenLine arcs before → line_from arcs trees before ≡ Ok after → IsEvenLine arcs after
+line-even : (arcs : List (List Place)) → All IsArc arcs → (trees : Trees) (before after : Line) → IsEvenLine arcs before
+    → line_from arcs trees before ≡ Ok after → IsEvenLine arcs after
 line-even arcs every NoTrees before after is h = subst (IsEvenLine arcs) (same-ok before after h) is
 line-even arcs every (NextTree t more) before after is h =
     let counted = counted-ok what.References (2 ^ 22) before.references t _ after h in
@@ -155,13 +178,16 @@ line-even arcs every (NextTree t more) before after is h =
     let fits = then-ok (joined t before found.0) (line_from arcs more) after found.2 in
     let joining = joined-fits t before found.0 fits.0 fits.1 in
     line-even arcs every more fits.0 after
-    (subst (IsEvenLine arcs) joining.1 (step-added arcs before.numbers before.first before.last found.0 (step-ends arcs t found.0 every found.1) is joining.0)) fits.2
+    (subst (IsEvenLine arcs) joining.1
+    (step-added arcs before.numbers before.first before.last found.0 (step-ends arcs t found.0 every found.1) is joining.0)) fits.2
 
-ring-closes : (arcs : List (List Place)) (numbers : List ℕ) (first last : Option Place) → IsEven arcs first last numbers → is_same last first ≡ true → HasEvenEnds arcs numbers
+ring-closes : (arcs : List (List Place)) (numbers : List ℕ) (first last : Option Place) → IsEven arcs first last numbers
+    → is_same last first ≡ true → HasEvenEnds arcs numbers
 ring-closes arcs numbers None None is fits = λ p. ends-even (named_ends arcs p numbers) 0 0 (is.even p) refl
 ring-closes arcs numbers None (Some l) is fits = absurd is.both
 ring-closes arcs numbers (Some f) None is fits = absurd is.both
-ring-closes arcs numbers (Some f) (Some l) is fits = λ p. ends-even (named_ends arcs p numbers) (times_at p (Some f)) (times_at p (Some l)) (is.even p) (same-times p l f fits)
+ring-closes arcs numbers (Some f) (Some l) is fits =
+    λ p. ends-even (named_ends arcs p numbers) (times_at p (Some f)) (times_at p (Some l)) (is.even p) (same-times p l f fits)
 
 line-begins : (arcs : List (List Place)) (numbers : List ℕ) → HasEvenEnds arcs numbers → IsEven arcs None None numbers
 line-begins arcs numbers is = record { both = tt; even = λ p. grown (named_ends arcs p numbers) (is p) }
@@ -169,13 +195,22 @@ line-begins arcs numbers is = record { both = tt; even = λ p. grown (named_ends
     grown : (n : ℕ) → n % 2 ≡ 0 → (n + 0 + 0) % 2 ≡ 0
     grown n h = omega (arith, h)
 
-pub ring-even : (arcs : List (List Place)) → All IsArc arcs → (t : Tree) (before after : PolygonRead) → HasEvenEnds arcs before.numbers → ring_of arcs t before ≡ Ok after → HasEvenEnds arcs after.numbers
+pub ring-even : (arcs : List (List Place)) → All IsArc arcs → (t : Tree) (before after : PolygonRead) → HasEvenEnds arcs before.numbers
+    → ring_of arcs t before ≡ Ok after → HasEvenEnds arcs after.numbers
 ring-even arcs every t before after is h =
-    let listed = then-ok (list_of t) (λ trees. and_then (line_from arcs trees (no_line before.numbers before.references)) (λ line. and_then (closed t line) (λ ring. Ok (record { numbers = ring.numbers; references = ring.references })))) after h in
-    let walked = then-ok (line_from arcs listed.0 (no_line before.numbers before.references)) (λ line. and_then (closed t line) (λ ring. Ok (record { numbers = ring.numbers; references = ring.references }))) after listed.2 in
+    let listed =
+    then-ok (list_of t)
+    (λ trees. and_then (line_from arcs trees (no_line before.numbers before.references))
+    (λ line. and_then (closed t line) (λ ring. Ok (record { numbers = ring.numbers; references = ring.references })))) after h
+    in
+    let walked = then-ok (line_from arcs listed.0 (no_line before.numbers before.references))
+    (λ line. and_then (closed t line) (λ ring. Ok (record { numbers = ring.numbers; references = ring.references }))) after listed.2 in
     let ends = then-ok (closed t walked.0) (λ ring. Ok (record { numbers = ring.numbers; references = ring.references })) after walked.2 in
     let closing = closed-fits t walked.0 ends.0 ends.1 in
-    let line = line-even arcs every listed.0 (no_line before.numbers before.references) walked.0 (line-begins arcs before.numbers is) walked.1 in
+    let line = line-even arcs every listed.0 (no_line before.numbers before.references) walked.0
+    (line-begins arcs before.numbers is) walked.1 in
     let even = ring-closes arcs walked.0.numbers walked.0.first walked.0.last line closing.0 in
-    let numbers : walked.0.numbers ≡ after.numbers = ap (λ (l : Line). l.numbers) closing.1 ∙ ap (λ (p : PolygonRead). p.numbers) (same-ok (record { numbers = ends.0.numbers; references = ends.0.references }) after ends.2) in
+    let numbers : walked.0.numbers ≡ after.numbers = ap (λ (l : Line). l.numbers) closing.1
+    ∙ ap (λ (p : PolygonRead). p.numbers) (same-ok (record { numbers = ends.0.numbers; references = ends.0.references }) after ends.2)
+    in
     subst (HasEvenEnds arcs) numbers even

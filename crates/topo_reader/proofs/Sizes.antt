@@ -1,6 +1,7 @@
 -- How much a value holds.
 use Rattle.std.proofs.Common.{◌≡◌, inl, inr, ℕ, ◌+◌, ◌≤◌, List, Ok, sym, ap, arith}
-use Rattle.json_scan.specs.Tree.{Tree, NullAt, FalseAt, TrueAt, NumberAt, TextAt, ListAt, ObjectAt, Trees, NoTrees, NextTree, Entries, NoEntries, NextEntry}
+use Rattle.json_scan.specs.Tree.{Tree, NullAt, FalseAt, TrueAt, NumberAt, TextAt, ListAt, ObjectAt, Trees, NoTrees, NextTree, Entries}
+use Rattle.json_scan.specs.Tree.{NoEntries, NextEntry}
 use Rattle.topo_reader.specs.Sequence.{required, list_of, object_of}
 use Rattle.topo_reader.proofs.ArcLaws.{same-ok}
 use Rattle.topo_reader.proofs.Lookups.{IsAmong, once-among, required-once}
@@ -39,12 +40,14 @@ object-size (TrueAt e) holder members h = absurd cc
 object-size (NumberAt e whole) holder members h = absurd cc
 object-size (TextAt e word) holder members h = absurd cc
 object-size (ListAt e others) holder members h = absurd cc
-object-size (ObjectAt e inner) holder members h = ap (λ (p : Tree × Entries). 1 + entry_sizes p.1) (same-ok (ObjectAt e inner, inner) (holder, members) (sym h))
+object-size (ObjectAt e inner) holder members h = ap (λ (p : Tree × Entries). 1 + entry_sizes p.1)
+    (same-ok (ObjectAt e inner, inner) (holder, members) (sym h))
 
 among-size : (t : Tree) (members : Entries) → IsAmong t members → size t ≤ entry_sizes members
 among-size t NoEntries is = absurd is
 among-size t (NextEntry e word value others) (inl same) = omega (arith, ap size same)
 among-size t (NextEntry e word value others) (inr further) = omega (arith, among-size t others further)
 
-pub required-size : (name : List ℕ) (holder : Tree) (members : Entries) (t : Tree) → Ok t ≡ required name holder members → size t ≤ entry_sizes members
+pub required-size : (name : List ℕ) (holder : Tree) (members : Entries) (t : Tree) → Ok t ≡ required name holder members
+    → size t ≤ entry_sizes members
 required-size name holder members t h = among-size t members (once-among name members t (required-once name holder members t h))

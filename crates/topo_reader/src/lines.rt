@@ -24,7 +24,8 @@ pub fn line_value(
     requires few_arcs { length arcs.now ≤ 2 ^ 20 }
     requires few { counted ≤ 2 ^ 22 }
     ensures few { IfOk result (λ count. count ≤ 2 ^ 22) }
-    ensures gives { Gives (λ count. count) result (line_of (places_of arcs.now) (tree value.entry) counted) }
+    ensures gives { Gives (λ count. count) result
+        (line_of (places_of arcs.now) (tree value.entry) counted) }
 {
     numbers.clear();
     match line(items_of(value)?, arcs, counted, numbers) {
@@ -43,7 +44,8 @@ pub fn lines(
     requires few_arcs { length arcs.now ≤ 2 ^ 20 }
     requires few { counted ≤ 2 ^ 22 }
     ensures few { IfOk result (λ count. count ≤ 2 ^ 22) }
-    ensures gives { Gives (λ count. count) result (lines_of (places_of arcs.now) (trees items.entry) counted) }
+    ensures gives { Gives (λ count. count) result
+        (lines_of (places_of arcs.now) (trees items.entry) counted) }
 {
     let mut count = counted;
     for value in items {

@@ -68,8 +68,10 @@ fn read_map(
 
 /// Reads a topology from its Object.
 fn read_object(alloc: Global, object: Object<'_>) -> Result<Topology, ReadFault>
-    ensures gives { Gives topology_read result (topology_from (holder object.entry) (members object.entry)) }
-    ensures even_ends { IfOk result (λ topology. All (HasEvenEnds topology.map.arcs) topology.map.polygons) }
+    ensures gives { Gives topology_read result
+        (topology_from (holder object.entry) (members object.entry)) }
+    ensures even_ends { IfOk result
+        (λ topology. All (HasEvenEnds topology.map.arcs) topology.map.polygons) }
 {
     let coded = header(object)?;
     let value = required(object, "arcs")?;
@@ -85,7 +87,8 @@ fn read_object(alloc: Global, object: Object<'_>) -> Result<Topology, ReadFault>
 /// Reads the topology that a value is.
 fn read_value(alloc: Global, value: Value<'_>) -> Result<Topology, ReadFault>
     ensures gives { Gives topology_read result (topology_of (tree value.entry)) }
-    ensures even_ends { IfOk result (λ topology. All (HasEvenEnds topology.map.arcs) topology.map.polygons) }
+    ensures even_ends { IfOk result
+        (λ topology. All (HasEvenEnds topology.map.arcs) topology.map.polygons) }
 {
     match value.as_object() {
         Some(object) => read_object(alloc, object),
@@ -93,14 +96,17 @@ fn read_value(alloc: Global, value: Value<'_>) -> Result<Topology, ReadFault>
     }
 }
 
-/// Reads the topology that a text is, or gives the first fault in the order of the walk, with its place in
-/// bytes from 0: of the members `type`, `transform`, `arcs` and `objects` each is looked for when the
-/// value of the one before was walked whole. `NoMemory` is want of memory.
+/// Reads the topology that a text is, or gives the first fault in the order of the walk, with its
+/// place in bytes from 0: of the members `type`, `transform`, `arcs` and `objects` each is looked
+/// for when the value of the one before was walked whole. `NoMemory` is want of memory.
 pub fn read(alloc: Global, scan: &Scan<'_>) -> Result<Topology, ReadFault>
-    ensures topology { (d : Document) → IsJson 64 scan.now.bytes scan.now.nodes d → IfOk result (λ topology. topology_of (document_tree d) ≡ Ok (topology_read topology)) }
-    ensures fault { (d : Document) → IsJson 64 scan.now.bytes scan.now.nodes d → IfErr result (Faults (topology_of (document_tree d))) }
+    ensures topology { (d : Document) → IsJson 64 scan.now.bytes scan.now.nodes d
+        → IfOk result (λ topology. topology_of (document_tree d) ≡ Ok (topology_read topology)) }
+    ensures fault { (d : Document) → IsJson 64 scan.now.bytes scan.now.nodes d
+        → IfErr result (Faults (topology_of (document_tree d))) }
     ensures span { IfOk result (λ topology. LiesIn scan.now.bytes topology.arcs_at) }
-    ensures even_ends { IfOk result (λ topology. All (HasEvenEnds topology.map.arcs) topology.map.polygons) }
+    ensures even_ends { IfOk result
+        (λ topology. All (HasEvenEnds topology.map.arcs) topology.map.polygons) }
 {
     read_value(alloc, value_of(scan))
 }

@@ -11,9 +11,11 @@ value_at-requires c = (node-lies c.args.scan.now 0 c.count.ensures.has_tree).wit
 
 pub returns-clause-tree : goal.returns-clause-tree
 returns-clause-tree c = λ d json.
-    ap (λ (s : ScanView). tree_of s c.value_at.result.node) c.value_at.ensures.scan ∙ ap (tree_of c.args.scan.now) c.value_at.ensures.node ∙ tree-is c.args.scan.now 0 (document_tree d) (c.count.ensures.tree d json)
+    ap (λ (s : ScanView). tree_of s c.value_at.result.node) c.value_at.ensures.scan ∙ ap (tree_of c.args.scan.now) c.value_at.ensures.node
+    ∙ tree-is c.args.scan.now 0 (document_tree d) (c.count.ensures.tree d json)
 
 pub returns-clause-stands : goal.returns-clause-stands
 returns-clause-stands c =
     subst (λ (t : Tree). NodeIs c.args.scan.now 0 t)
-    (sym (ap (λ (s : ScanView). tree_of s c.value_at.result.node) c.value_at.ensures.scan ∙ ap (tree_of c.args.scan.now) c.value_at.ensures.node)) (tree-here c.args.scan.now 0 c.count.ensures.has_tree)
+    (sym (ap (λ (s : ScanView). tree_of s c.value_at.result.node) c.value_at.ensures.scan
+    ∙ ap (tree_of c.args.scan.now) c.value_at.ensures.node)) (tree-here c.args.scan.now 0 c.count.ensures.has_tree)

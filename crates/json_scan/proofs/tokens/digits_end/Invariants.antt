@@ -10,7 +10,8 @@ abbrev pub invariant-loop-end : goal.invariant-loop-end
 invariant-loop-end l = record {
   from : l.at ≤ l.end;
   within : l.end ≤ length l.text;
-  digits : (start : ℕ) (opened : List Open) (nodes : List Node) → Continues l.text (state (InNumber l.fn.part start) opened nodes l.at) (state (InNumber l.fn.part start) opened nodes l.end);
+  digits : (start : ℕ) (opened : List Open) (nodes : List Node)
+      → Continues l.text (state (InNumber l.fn.part start) opened nodes l.at) (state (InNumber l.fn.part start) opened nodes l.end);
 }
 
 abbrev pub decreases-loop-end : goal.decreases-loop-end

@@ -8,14 +8,17 @@ use Rattle.json_scan.proofs.tokens.negative_end.Goals as goal
 
 pub returns-then-at-text-clause-number : goal.returns-then-at-text-clause-number
 returns-then-at-text-clause-number c =
-    λ start opened nodes. number_breaks c.args.text.now _ Minus start opened nodes c.args.at (Continues-refl c.args.text.now (state (InNumber Minus start) opened nodes c.args.at)) refl (λ lt. absurd (omega arith))
+    λ start opened nodes. number_breaks c.args.text.now _ Minus start opened nodes c.args.at
+    (Continues-refl c.args.text.now (state (InNumber Minus start) opened nodes c.args.at)) refl (λ lt. absurd (omega arith))
 
 pub returns-in-Some-clause-number : goal.returns-in-Some-clause-number
 returns-in-Some-clause-number c =
     λ start opened nodes. ends_as c.args.text.now Minus c.in-Some.part start opened nodes c.args.at _ c.number_end.result
-    (number_more c.args.text.now _ Minus c.in-Some.part start opened nodes c.args.at (Continues-refl c.args.text.now (state (InNumber Minus start) opened nodes c.args.at)) (omega arith) (sym c.in-Some.ensures))
+    (number_more c.args.text.now _ Minus c.in-Some.part start opened nodes c.args.at
+    (Continues-refl c.args.text.now (state (InNumber Minus start) opened nodes c.args.at)) (omega arith) (sym c.in-Some.ensures))
     (c.number_end.ensures.number start opened nodes)
 
 pub returns-in-None-clause-number : goal.returns-in-None-clause-number
 returns-in-None-clause-number c =
-    λ start opened nodes. number_breaks c.args.text.now _ Minus start opened nodes c.args.at (Continues-refl c.args.text.now (state (InNumber Minus start) opened nodes c.args.at)) refl (λ lt. sym c.in-None.ensures)
+    λ start opened nodes. number_breaks c.args.text.now _ Minus start opened nodes c.args.at
+    (Continues-refl c.args.text.now (state (InNumber Minus start) opened nodes c.args.at)) refl (λ lt. sym c.in-None.ensures)

@@ -19,7 +19,8 @@ decreases-collection l = 2 * entry_sizes (members l.object)
 
 abbrev pub invariant-collection-loop-value : goal.invariant-collection-loop-value
 invariant-collection-loop-value l = record {
-  same : collection_geometry (places_of l.arcs) (holder l.object) (members l.object) (seen_of l.fn.seen) ≡ geometries_of (places_of l.arcs) (trees l.value-iterator) (seen_of l.seen);
+  same : collection_geometry (places_of l.arcs) (holder l.object) (members l.object) (seen_of l.fn.seen)
+      ≡ geometries_of (places_of l.arcs) (trees l.value-iterator) (seen_of l.seen);
   few : l.seen.references ≤ 2 ^ 22;
   small : sizes (trees l.value-iterator) + 1 ≤ entry_sizes (members l.object);
   can : (goal.iterator-collection-loop-value).can_next l.value-iterator;

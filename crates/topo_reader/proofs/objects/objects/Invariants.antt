@@ -8,7 +8,8 @@ use Rattle.topo_reader.proofs.objects.objects.Given as goal
 
 abbrev pub invariant-loop-member : goal.invariant-loop-member
 invariant-loop-member l = record {
-  same : objects_of (places_of l.arcs) (tree l.fn.value) (seen_of l.fn.seen) ≡ objects_from (places_of l.arcs) (entries l.member-iterator) (seen_of l.seen);
+  same : objects_of (places_of l.arcs) (tree l.fn.value) (seen_of l.fn.seen)
+      ≡ objects_from (places_of l.arcs) (entries l.member-iterator) (seen_of l.seen);
   few : l.seen.references ≤ 2 ^ 22;
   can : (goal.iterator-loop-member).can_next l.member-iterator;
   ends : (goal.iterator-loop-member).is_finite l.member-iterator;

@@ -11,8 +11,10 @@ use Rattle.topo_reader.proofs.reader.read_map.Goals as goal
 pub new-requires : goal.new-requires
 new-requires c =
     let t = tree c.in_ok-value.value in
-    let from = subst (λ (s : Seen). objects_of (places_of c.deref.result.now) t s ≡ Ok (seen_of c.objects.new.seen)) c.new-seen.ensures c.in_ok-objects.ensures in
-    let is = objects-keep (places_of c.args.arcs.items) c.requires.are_arcs.each t nothing_seen (seen_of c.objects.new.seen) (nothing-seen _) (rw c.deref.ensures.value at from) in
+    let from = subst (λ (s : Seen). objects_of (places_of c.deref.result.now) t s ≡ Ok (seen_of c.objects.new.seen)) c.new-seen.ensures
+    c.in_ok-objects.ensures in
+    let is = objects-keep (places_of c.args.arcs.items) c.requires.are_arcs.each t nothing_seen (seen_of c.objects.new.seen)
+    (nothing-seen _) (rw c.deref.ensures.value at from) in
     record {
       arcs = c.requires.are_arcs.each;
       names = is.names;
@@ -26,6 +28,8 @@ new-requires c =
 pub returns-clause-even_ends : goal.returns-clause-even_ends
 returns-clause-even_ends c =
     let t = tree c.in_ok-value.value in
-    let from = subst (λ (s : Seen). objects_of (places_of c.deref.result.now) t s ≡ Ok (seen_of c.objects.new.seen)) c.new-seen.ensures c.in_ok-objects.ensures in
-    let is = objects-keep (places_of c.args.arcs.items) c.requires.are_arcs.each t nothing_seen (seen_of c.objects.new.seen) (nothing-seen _) (rw c.deref.ensures.value at from) in
+    let from = subst (λ (s : Seen). objects_of (places_of c.deref.result.now) t s ≡ Ok (seen_of c.objects.new.seen)) c.new-seen.ensures
+    c.in_ok-objects.ensures in
+    let is = objects-keep (places_of c.args.arcs.items) c.requires.are_arcs.each t nothing_seen (seen_of c.objects.new.seen)
+    (nothing-seen _) (rw c.deref.ensures.value at from) in
     subst (λ (m : Map). All (HasEvenEnds m.arcs) m.polygons) (sym c.new.ensures.value) is.even
