@@ -154,7 +154,7 @@ step-added arcs numbers (Some f) (Some l) step ends is fits =
           (sum_by_push (λ k. ends_at p (get_or arcs k [])) numbers step.arc ∙ ap (λ (m : ℕ). named_ends arcs p numbers + m) (ends.ends p));
     }
 
-joined-fits : (t : Tree) (line : Line) (step : Step) (after : Line) → joined t line step ≡ Ok after
+pub joined-fits : (t : Tree) (line : Line) (step : Step) (after : Line) → joined t line step ≡ Ok after
     → (joins line.last step.first ≡ true) × (with_step line step ≡ after)
 joined-fits t line step after h = at_case (joins line.last step.first) refl
   where
@@ -162,7 +162,7 @@ joined-fits t line step after h = at_case (joins line.last step.first) refl
     at_case true e = (e, same-ok (with_step line step) after (sym (cond-true (joins line.last step.first) _ _ e) ∙ h))
     at_case false e = not-ok _ after (sym (cond-false (joins line.last step.first) _ _ e) ∙ h)
 
-closed-fits : (t : Tree) (line after : Line) → closed t line ≡ Ok after → (is_same line.last line.first ≡ true) × (line ≡ after)
+pub closed-fits : (t : Tree) (line after : Line) → closed t line ≡ Ok after → (is_same line.last line.first ≡ true) × (line ≡ after)
 closed-fits t line after h = at_case (is_same line.last line.first) refl
   where
     at_case : (b : Bool) → is_same line.last line.first ≡ b → (is_same line.last line.first ≡ true) × (line ≡ after)

@@ -19,13 +19,13 @@ use Rattle.topo_reader.specs.declared.geometry.Geometry.TheVariants as geometry
 use Rattle.topo_reader.specs.Sequence.{and_then, each, list_of, required}
 use Rattle.topo_reader.specs.Positions.{position_of, origin}
 use Rattle.topo_reader.specs.Geometries.{Seen, nothing_seen, point_added, points_added, with_points, forwards, backwards, found_step}
-use Rattle.topo_reader.specs.Geometries.{step_of, Line, no_line, joins, with_step, joined, line_from, is_same, closed, line_of, lines_of}
+use Rattle.topo_reader.specs.Geometries.{step_of, Line, no_line, with_step, joined, line_from, closed, line_of, lines_of}
 use Rattle.topo_reader.specs.Geometries.{PolygonRead, ring_of, rings_from, rings_of, polygons_from, polygons_of, with_polygon, polygon_of}
 use Rattle.topo_reader.specs.Geometries.{with_references, geometry_header, of_kind, geometry_of, collection_of, geometry_list}
 use Rattle.topo_reader.specs.Geometries.{geometries_of, objects_from, objects_of}
 use Rattle.arc_map.specs.Map.{IsArc}
 use Rattle.topo_reader.specs.Ends.{HasEvenEnds}
-use Rattle.topo_reader.proofs.EndLaws.{ring-even}
+use Rattle.topo_reader.proofs.EndLaws.{joined-fits, closed-fits, ring-even}
 use Rattle.topo_reader.proofs.ArcLaws.{not-ok, same-ok, then-ok, counted-ok}
 
 -- ---- walks that end well
@@ -84,13 +84,6 @@ pub record AreNamed (n others : ℕ) (numbers : List ℕ) (references : ℕ) : T
   pub long : length numbers + others ≤ references
   pub few : references ≤ 2 ^ 22
 
-joined-ok : (t : Tree) (line : Line) (step : Step) (after : Line) → joined t line step ≡ Ok after → with_step line step ≡ after
-joined-ok t line step after h = either-ok (joins line.last step.first) _ _ after h (same-ok (with_step line step) after)
-    (λ e. not-ok _ after e)
-
-closed-ok : (t : Tree) (line after : Line) → closed t line ≡ Ok after → line ≡ after
-closed-ok t line after h = either-ok (is_same line.last line.first) _ _ after h (same-ok line after) (λ e. not-ok _ after e)
-
 line-keeps : (arcs : List (List Place)) (others : ℕ) (trees : Trees) (before after : Line)
     → AreNamed (length arcs) others before.numbers before.references → line_from arcs trees before ≡ Ok after
     → AreNamed (length arcs) others after.numbers after.references
@@ -108,7 +101,7 @@ line-keeps arcs others (NextTree t more) before after are h =
     }
     in
     line-keeps arcs others more fits.0 after
-    (subst (λ (l : Line). AreNamed (length arcs) others l.numbers l.references) (joined-ok t before found.0 fits.0 fits.1) next) fits.2
+    (subst (λ (l : Line). AreNamed (length arcs) others l.numbers l.references) (joined-fits t before found.0 fits.0 fits.1).1 next) fits.2
 
 -- a polygon so far, where others were counted before
 record IsPolygon (arcs : List (List Place)) (others : ℕ) (polygon : PolygonRead) : Type 0 where
@@ -127,7 +120,7 @@ ring-keeps arcs every others t before after are h =
     (λ line. and_then (closed t line) (λ ring. Ok (record { numbers = ring.numbers; references = ring.references }))) after listed.2 in
     let ends = then-ok (closed t walked.0) (λ ring. Ok (record { numbers = ring.numbers; references = ring.references })) after walked.2 in
     let ring : AreNamed (length arcs) others ends.0.numbers ends.0.references =
-    subst (λ (l : Line). AreNamed (length arcs) others l.numbers l.references) (closed-ok t walked.0 ends.0 ends.1)
+    subst (λ (l : Line). AreNamed (length arcs) others l.numbers l.references) (closed-fits t walked.0 ends.0 ends.1).1
     (line-keeps arcs others listed.0 (no_line before.numbers before.references) walked.0 are.named walked.1)
     in
     record {

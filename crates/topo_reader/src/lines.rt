@@ -1,7 +1,6 @@
 //! Lines, of which only the references are counted.
 
-ghost use Rattle.std.specs.Prelude.{◌≡◌, ◌≤◌, ◌^◌, ℕ, IfOk, length};
-ghost use Rattle.grid_exact.specs.Geometry.{Place};
+ghost use Rattle.std.specs.Prelude.{◌≤◌, ◌^◌, length};
 ghost use Rattle.json_scan.specs.Shown.{tree};
 ghost use Rattle.json_scan.specs.Left.{trees};
 ghost use Rattle.topo_reader.specs.Arcs.{places_of};
@@ -21,10 +20,8 @@ pub fn line_value(
     counted: u32,
     numbers: &mut Vec<u32>,
 ) -> Result<u32, ReadFault>
-    requires few_arcs { length arcs.now ≤ 2 ^ 20 }
-    requires few { counted ≤ 2 ^ 22 }
-    ensures few { IfOk result (λ count. count ≤ 2 ^ 22) }
-    ensures gives { Gives (λ count. count) result
+    requires { length arcs.now ≤ 2 ^ 20 }
+    ensures { Gives (λ count. count) result
         (line_of (places_of arcs.now) (tree value.entry) counted) }
 {
     numbers.clear();
@@ -41,10 +38,8 @@ pub fn lines(
     counted: u32,
     numbers: &mut Vec<u32>,
 ) -> Result<u32, ReadFault>
-    requires few_arcs { length arcs.now ≤ 2 ^ 20 }
-    requires few { counted ≤ 2 ^ 22 }
-    ensures few { IfOk result (λ count. count ≤ 2 ^ 22) }
-    ensures gives { Gives (λ count. count) result
+    requires { length arcs.now ≤ 2 ^ 20 }
+    ensures { Gives (λ count. count) result
         (lines_of (places_of arcs.now) (trees items.entry) counted) }
 {
     let mut count = counted;

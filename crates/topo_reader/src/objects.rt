@@ -1,7 +1,6 @@
 //! The geometries of `objects`.
 
-ghost use Rattle.std.specs.Prelude.{◌≡◌, ◌≤◌, ◌^◌, length};
-ghost use Rattle.grid_exact.specs.Geometry.{Place};
+ghost use Rattle.std.specs.Prelude.{◌≤◌, ◌^◌, length};
 ghost use Rattle.json_scan.specs.Shown.{tree};
 ghost use Rattle.topo_reader.specs.Arcs.{places_of};
 ghost use Rattle.topo_reader.specs.Geometries.{objects_of};
@@ -23,8 +22,7 @@ pub fn objects(
     arcs: &[Vec<Point>],
     seen: &mut SeenSoFar,
 ) -> Result<(), ReadFault>
-    requires few_arcs { length arcs.now ≤ 2 ^ 20 }
-    requires few { seen.old.references ≤ 2 ^ 22 }
+    requires { length arcs.now ≤ 2 ^ 20 }
     ensures { Gives (λ _. seen_of seen.new) result
         (objects_of (places_of arcs.now) (tree value.entry) (seen_of seen.old)) }
 {

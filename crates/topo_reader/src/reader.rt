@@ -1,7 +1,6 @@
 //! A topology: the map that it is, and where the value of `arcs` stands.
 
 ghost use Rattle.std.specs.Prelude.{◌≡◌, ◌≤◌, ◌^◌, IfOk, IfErr, All, vec_len};
-ghost use Rattle.grid_exact.specs.Geometry.{Place};
 ghost use Rattle.json_scan.specs.Grammar.{Document, IsJson};
 ghost use Rattle.json_scan.specs.Tree.{document_tree};
 ghost use Rattle.json_scan.specs.Shown.{tree};

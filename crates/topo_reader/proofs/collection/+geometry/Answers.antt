@@ -13,8 +13,8 @@ use Rattle.topo_reader.proofs.Collections.{collection-is}
 use Rattle.topo_reader.proofs.Sizes.{listed-size, required-size}
 use Rattle.topo_reader.proofs.collection.+geometry.Goals as goal
 
-pub collection-returns-in_err-value-items-clause-gives : goal.collection-returns-in_err-value-items-clause-gives
-collection-returns-in_err-value-items-clause-gives t c =
+pub collection-returns-in_err-value-items : goal.collection-returns-in_err-value-items
+collection-returns-in_err-value-items t c =
     let object = c.args.object in
     let p = err_from_is_err_and c.from_residual-in_err-value-items.result c.from_residual-in_err-value-items.ensures.1 in
     let walk = λ (ts : Trees). geometries_of (places_of c.args.arcs.now) ts (seen_of c.args.seen.now) in
@@ -34,7 +34,6 @@ collection-loop-value-init t c =
       same = collection-is (places_of c.args.arcs.now) (holder object) (members object) list (seen_of c.args.seen.now) c.in_ok-list.ensures
           ∙ ap (λ (r : Result Trees ReadFault). and_then r (λ ts. geometries_of (places_of c.args.arcs.now) ts (seen_of c.args.seen.now)))
           (sym listed);
-      few = c.requires.few;
       small = omega (
         arith,
         listed-size list (trees c.into_iter-value-iterator.result) listed,

@@ -1,4 +1,4 @@
-use Rattle.std.proofs.Common.{◌≡◌, ◌+◌, ◌*◌, ◌≤◌, ◌^◌}
+use Rattle.std.proofs.Common.{◌≡◌, ◌+◌, ◌*◌, ◌≤◌}
 use Rattle.json_scan.specs.Shown.{tree}
 use Rattle.json_scan.specs.Left.{trees}
 use Rattle.json_scan.specs.Members.{holder, members}
@@ -21,7 +21,6 @@ abbrev pub invariant-collection-loop-value : goal.invariant-collection-loop-valu
 invariant-collection-loop-value l = record {
   same : collection_geometry (places_of l.arcs) (holder l.object) (members l.object) (seen_of l.fn.seen)
       ≡ geometries_of (places_of l.arcs) (trees l.value-iterator) (seen_of l.seen);
-  few : l.seen.references ≤ 2 ^ 22;
   small : sizes (trees l.value-iterator) + 1 ≤ entry_sizes (members l.object);
   can : (goal.iterator-collection-loop-value).can_next l.value-iterator;
   ends : (goal.iterator-collection-loop-value).is_finite l.value-iterator;

@@ -1,4 +1,4 @@
-use Rattle.std.proofs.Common.{◌≡◌, ◌≤◌, ◌^◌}
+use Rattle.std.proofs.Common.{◌≡◌}
 use Rattle.json_scan.specs.Shown.{tree}
 use Rattle.json_scan.specs.Left.{entries}
 use Rattle.topo_reader.specs.Arcs.{places_of}
@@ -10,7 +10,6 @@ abbrev pub invariant-loop-member : goal.invariant-loop-member
 invariant-loop-member l = record {
   same : objects_of (places_of l.arcs) (tree l.fn.value) (seen_of l.fn.seen)
       ≡ objects_from (places_of l.arcs) (entries l.member-iterator) (seen_of l.seen);
-  few : l.seen.references ≤ 2 ^ 22;
   can : (goal.iterator-loop-member).can_next l.member-iterator;
   ends : (goal.iterator-loop-member).is_finite l.member-iterator;
 }

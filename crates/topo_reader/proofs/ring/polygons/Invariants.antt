@@ -1,4 +1,4 @@
-use Rattle.std.proofs.Common.{◌≡◌, ◌≤◌, ◌^◌}
+use Rattle.std.proofs.Common.{◌≡◌}
 use Rattle.json_scan.specs.Shown.{tree}
 use Rattle.json_scan.specs.Left.{trees}
 use Rattle.topo_reader.specs.Arcs.{places_of}
@@ -10,7 +10,6 @@ abbrev pub invariant-loop-item : goal.invariant-loop-item
 invariant-loop-item l = record {
   same : polygons_of (places_of l.arcs) (tree l.fn.value) (polygon_read l.fn.numbers.items l.fn.counted)
       ≡ polygons_from (places_of l.arcs) (trees l.item-iterator) (polygon_read l.numbers.items l.count);
-  few : l.count ≤ 2 ^ 22;
   can : (goal.iterator-loop-item).can_next l.item-iterator;
   ends : (goal.iterator-loop-item).is_finite l.item-iterator;
 }
