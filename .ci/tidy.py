@@ -14,6 +14,7 @@ import sys
 from collections.abc import Iterator
 
 TOP = pathlib.Path(__file__).resolve().parent.parent
+ARCHITECTURE = TOP / "docs/ARCHITECTURE.md"
 CRATE_PAGES = ("docs/ARCHITECTURE.md", "docs/PROMISES.md")
 WIDEST = {".rt": 100, ".antt": 140}
 OUTSIDE = re.compile(r"\.\./shared|\bprototypes?/")
@@ -27,11 +28,26 @@ IMPL = re.compile(r"^impl(?:<[^>]*>)? (\w+)[^{]*\{(.*?)^\}", re.MULTILINE | re.D
 EXPORT = re.compile(r"^pub use (?:crate::)?\w+::(?:\{([^}]*)\}|(\w+));", re.MULTILINE)
 
 
+def libraries() -> dict[str, set[str]]:
+    """The crates that crates.txt lists, each with the libraries that it names."""
+    listed = {}
+    for line in (TOP / "crates.txt").read_text().splitlines():
+        if line.strip() and not line.startswith("#"):
+            head, _, tail = line.partition(":")
+            listed[head.split()[0]] = set(tail.split())
+    return listed
+
+
 def crates() -> list[str]:
     """The crates that crates.txt lists."""
-    lines = (TOP / "crates.txt").read_text().splitlines()
-    listed = [line for line in lines if line.strip() and not line.startswith("#")]
-    return [line.split(":")[0].split()[0] for line in listed]
+    return list(libraries())
+
+
+def below(name: str) -> set[str]:
+    """The repository's crates on which a crate stands, through others too."""
+    listed = libraries()
+    direct = listed[name] & listed.keys()
+    return direct.union(*(below(other) for other in direct))
 
 
 def files(*suffixes: str) -> Iterator[pathlib.Path]:
@@ -63,12 +79,20 @@ def pages_of_crates() -> Iterator[str]:
                 yield f"{page} does not speak of `{name}`"
 
 
+def stands_on() -> Iterator[str]:
+    """The table of crates says what each stands on, but for what follows from that."""
+    rows = re.findall(r"^\| `(\w+)` \| ([^|]*)\|", ARCHITECTURE.read_text(), re.MULTILINE)
+    for name, cell in rows:
+        lower = below(name) if name in crates() else set()
+        nearest = lower - set().union(*(below(other) for other in lower))
+        if set(CODE.findall(cell)) != nearest:
+            wanted = ", ".join(sorted(nearest))
+            yield f"docs/ARCHITECTURE.md: `{name}` stands on {wanted or 'nothing'}"
+
+
 def trusted() -> Iterator[str]:
     """Each page on what is trusted names the kit's crates that are used."""
-    used: set[str] = set()
-    for line in (TOP / "crates.txt").read_text().splitlines():
-        if not line.startswith("#"):
-            used |= set(line.partition(":")[2].split())
+    used: set[str] = set().union(*libraries().values())
     for page in ("README.md", "docs/PROMISES.md"):
         text = (TOP / page).read_text()
         for name in sorted(used - set(crates())):
@@ -183,6 +207,7 @@ def main() -> int:
         for rule in (
             handles,
             pages_of_crates,
+            stands_on,
             trusted,
             roots,
             edits,

@@ -155,10 +155,7 @@ def slant() -> str:
         return rolls.randint(-20, 20)
 
     def arc(k: int) -> Arc:
-        return [
-            (i * 60 + wiggle() - k * 400, i * 60 + wiggle() + k * 400)
-            for i in range(1024)
-        ]
+        return [(i * 60 + wiggle() - k * 400, i * 60 + wiggle() + k * 400) for i in range(1024)]
 
     return topology("", (arc(k) for k in range(50)))
 

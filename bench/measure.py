@@ -84,9 +84,7 @@ def forms(case: Case, folder: pathlib.Path) -> list[tuple[str, list[str]]]:
     ]
 
 
-def measure(
-    programs: list[str], case: Case, repeat: int, folder: pathlib.Path
-) -> None:
+def measure(programs: list[str], case: Case, repeat: int, folder: pathlib.Path) -> None:
     """Runs all forms of a map by each program, prints a line for each, and compares."""
     for name, words in forms(case, folder):
         cells = []
@@ -104,9 +102,7 @@ def measure(
         sys.exit(f"{case.name}: a point changed its polygons")
 
 
-def cases(
-    program: str, only: str, maps: list[list[str]], folder: pathlib.Path
-) -> list[Case]:
+def cases(program: str, only: str, maps: list[list[str]], folder: pathlib.Path) -> list[Case]:
     """The maps whose name has the word, each written to the folder, and those given."""
     found = []
     for size in SIZES:

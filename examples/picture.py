@@ -182,6 +182,7 @@ def picture(before: Topology, after: Topology) -> str:
         [
             f'<svg xmlns="http://www.w3.org/2000/svg" viewBox="0 0 {width} {height}" '
             f'width="{width}" height="{height}" font-family="sans-serif" fill="{INK}">',
+            "<title>A map before and after it is thinned</title>",
             f'<rect width="{width}" height="{height}" fill="#fffdf8"/>',
             caption(before, "before", first.left),
             *fills(before, first),
