@@ -12,7 +12,7 @@ use Rattle.topo_reader.specs.Sequence.{and_then, each}
 use Rattle.topo_reader.specs.Positions.{is_grid_number, position_of, origin}
 use Rattle.topo_reader.specs.Arcs.{same_place, last_of, is_at, with_position, ArcRead, positions_of, arc_of, arcs_of, arcs_value}
 use Rattle.topo_reader.specs.Geometries.{point_added, points_added}
-use Rattle.topo_reader.proofs.Goes.{counted-more}
+use Rattle.topo_reader.proofs.Counting.{counted-more}
 use Rattle.topo_reader.proofs.Coordinates.{grid-within}
 use Rattle.map_gen.specs.Lattice.{IsSmall}
 use Rattle.topo_writer.proofs.TreeShapes.{IsListTree, AreTrees, IsPairTree}

@@ -10,7 +10,7 @@ use Rattle.topo_reader.specs.declared.fault.What.TheVariants as what
 use Rattle.topo_reader.specs.Sequence.{and_then}
 use Rattle.topo_reader.specs.Geometries.{Seen, nothing_seen, with_points, PolygonRead, with_polygon, geometry_of, geometries_of, objects_from, objects_of}
 use Rattle.topo_reader.specs.Reads.{TopologyRead, map_of, topology_of}
-use Rattle.topo_reader.proofs.Goes.{counted-more}
+use Rattle.topo_reader.proofs.Counting.{counted-more}
 use Rattle.topo_writer.proofs.TreeShapes.{IsListTree, AreTrees}
 use Rattle.map_gen.proofs.TreeShapes.{IsTextTree, IsObjectTree, StartsWith, IsEnd, text-parts, list-parts, two-parts, three-parts}
 use Rattle.map_gen.proofs.TreeArcs.{IsPositionTree, AreArcTrees, points-read}

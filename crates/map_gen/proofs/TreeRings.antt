@@ -10,7 +10,7 @@ use Rattle.topo_reader.specs.declared.fault.What.TheVariants as what
 use Rattle.topo_reader.specs.declared.line.Step.{Step}
 use Rattle.topo_reader.specs.Sequence.{and_then, each}
 use Rattle.topo_reader.specs.Geometries.{forwards, backwards, whole_step, found_step, step_of, Line, no_line, is_same, joins, with_step, joined, line_from, closed, PolygonRead, ring_of, rings_of}
-use Rattle.topo_reader.proofs.Goes.{counted-more}
+use Rattle.topo_reader.proofs.Counting.{counted-more}
 use Rattle.topo_reader.proofs.ArcLaws.{same-itself}
 use Rattle.topo_writer.proofs.TreeShapes.{IsNumberTree, IsListTree, AreTrees}
 

@@ -2,7 +2,7 @@
 use Rattle.std.proofs.Common.{◌≡◌, inl, inr, ℕ, ◌+◌, ◌≤◌, List, Ok, sym, ap, arith}
 use Rattle.json_scan.specs.Tree.{Tree, NullAt, FalseAt, TrueAt, NumberAt, TextAt, ListAt, ObjectAt, Trees, NoTrees, NextTree, Entries}
 use Rattle.json_scan.specs.Tree.{NoEntries, NextEntry}
-use Rattle.topo_reader.specs.Sequence.{required, list_of, object_of}
+use Rattle.topo_reader.specs.Sequence.{required, list_of}
 use Rattle.topo_reader.proofs.ArcLaws.{same-ok}
 use Rattle.topo_reader.proofs.Lookups.{IsAmong, once-among, required-once}
 
@@ -32,16 +32,6 @@ listed-size (NumberAt e whole) trees h = absurd cc
 listed-size (TextAt e word) trees h = absurd cc
 listed-size (ListAt e others) trees h = ap (λ (ts : Trees). 1 + sizes ts) (same-ok others trees (sym h))
 listed-size (ObjectAt e members) trees h = absurd cc
-
-pub object-size : (t holder : Tree) (members : Entries) → Ok (holder, members) ≡ object_of t → size t ≡ 1 + entry_sizes members
-object-size (NullAt e) holder members h = absurd cc
-object-size (FalseAt e) holder members h = absurd cc
-object-size (TrueAt e) holder members h = absurd cc
-object-size (NumberAt e whole) holder members h = absurd cc
-object-size (TextAt e word) holder members h = absurd cc
-object-size (ListAt e others) holder members h = absurd cc
-object-size (ObjectAt e inner) holder members h = ap (λ (p : Tree × Entries). 1 + entry_sizes p.1)
-    (same-ok (ObjectAt e inner, inner) (holder, members) (sym h))
 
 among-size : (t : Tree) (members : Entries) → IsAmong t members → size t ≤ entry_sizes members
 among-size t NoEntries is = absurd is

@@ -19,7 +19,7 @@ use Rattle.topo_reader.specs.declared.fault.What.TheVariants as what
 use Rattle.topo_reader.specs.Sequence.{and_then}
 use Rattle.topo_reader.specs.Positions.{is_grid_number, whole_number, number_of, two_numbers, position_of, origin}
 use Rattle.topo_reader.specs.Arcs.{same_place, last_of, is_at, with_position, base_of, ArcRead, positions_of, arc_of, arcs_of, arcs_value}
-use Rattle.topo_reader.proofs.Goes.{counted-more}
+use Rattle.topo_reader.proofs.Counting.{counted-more}
 use Rattle.topo_reader.proofs.ArcLaws.{same-itself}
 use Rattle.topo_writer.specs.ArcsText.{difference, differences, coded_position, coded_positions, following}
 use Rattle.topo_writer.proofs.TreeShapes.{IsNumberTree, IsListTree, AreTrees, IsPairTree}
