@@ -20,6 +20,7 @@ use Rattle.arc_map.specs.declared.refs.ChainRef.{ChainRef}
 use Rattle.arc_map.specs.declared.work.LiveChain.{LiveChain}
 use Rattle.arc_map.specs.declared.work.WorkMap.TheInside.{Inside}
 use Rattle.arc_map.proofs.Rising.{rising_order}
+use Rattle.arc_map.proofs.Thinning.{length_rest}
 
 -- ---- one chain
 
@@ -64,10 +65,6 @@ but_last : (P : Vertex → Type 0) (f : ℕ → Vertex) (ns : List ℕ) → ((j 
 but_last P f [] each = tt
 but_last P f (n ∷ []) each = tt
 but_last P f (n ∷ k ∷ ks) each = (each 0 (omega arith), but_last P f (k ∷ ks) (λ j below. each (suc j) (omega arith)))
-
-length_rest : (ns : List ℕ) → length (drop 1 ns) ≡ length ns - 1
-length_rest [] = refl
-length_rest (n ∷ ns) = omega arith
 
 -- what holds of each vertex strictly between the ends of the chain
 inner : (m : Map) (x : LiveChain) (P : Vertex → Type 0) → IsLive m x → ((n : ℕ) → x.place.«from» < n → n < x.place.to → P (vertex_in m x.place.arc n)) → EachButLast P (live_chain m x).rest

@@ -49,7 +49,7 @@ runs_of_arcs arc (ps ∷ pss) ks cut =
 
 -- ---- the places of a run, two by two
 
-before_in : (frame : Frame) (a b c : Place) → IsBeforeIn frame a b → IsBeforeIn frame b c → IsBeforeIn frame a c
+pub before_in : (frame : Frame) (a b c : Place) → IsBeforeIn frame a b → IsBeforeIn frame b c → IsBeforeIn frame a c
 before_in Plain a b c = then_before a b c
 before_in Turned a b c = then_before (turned a) (turned b) (turned c)
 
@@ -72,7 +72,7 @@ pairs_of_edges {X = X} R goes_on v (w ∷ ws) edges =
     behind a v [] first edges = (first, tt)
     behind a v (w ∷ ws) first edges = (first, behind a w ws (goes_on a v w first edges.0) edges.1)
 
-edges_of_pairs : {X : Type 0} (R : X → X → Type 0) (v : X) (ws : List X) → AllPairs R (v ∷ ws) → EachEdge R v ws
+pub edges_of_pairs : {X : Type 0} (R : X → X → Type 0) (v : X) (ws : List X) → AllPairs R (v ∷ ws) → EachEdge R v ws
 edges_of_pairs R v [] pairs = tt
 edges_of_pairs R v (w ∷ ws) pairs = (pairs 0 1 v (omega arith) (omega arith), edges_of_pairs R w ws (λ i j d before below. pairs (suc i) (suc j) d (omega arith) (omega arith)))
 

@@ -21,12 +21,6 @@ pub record AreEndingBelow (chains : List Chain) (n : ℕ) (p : Place) (numbers :
   pub rising : IsStrictlyIncreasing numbers
   pub all : (k : ℕ) → Contains numbers k ↔ ((k < n) × EndsAt p (chain_at chains k))
 
-pub none_ending : (chains : List Chain) (p : Place) → AreEndingBelow chains 0 p []
-none_ending chains p = record {
-  rising = λ k below. absurd (omega arith);
-  all = λ k. (λ has. let inside = has.1 in absurd (omega arith), λ ends. let below = ends.0 in absurd (omega arith));
-}
-
 pub all_ending : (chains : List Chain) (n : ℕ) (p : Place) (numbers : List ℕ) → n ≡ length chains → AreEndingBelow chains n p numbers → AreChainsEndingAt chains p numbers
 all_ending chains n p numbers e are = let all = subst (λ m. AreEndingBelow chains m p numbers) e are in record { rising = all.rising; all = all.all }
 

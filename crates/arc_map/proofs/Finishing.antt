@@ -1,9 +1,9 @@
 -- The chains of a map in memory, joined into its arcs: they are arcs again, and those that the chains make up.
-use Rattle.std.proofs.Common.{◌≡◌, ◌≢◌, ◌∙◌, ℕ, zero, suc, ◌+◌, ◌-◌, ◌<◌, ◌≤◌, Bool, true, false, List, [], ◌∷◌, ◌++◌, cond, nat_eq, All, AllPairs, map, length, get_or, take, drop, set, sum_by, refl, sym, ap, subst, inl, inr, arith, append_assoc, append-nil, length-append, length-drop}
+use Rattle.std.proofs.Common.{◌≡◌, ◌≢◌, ◌∙◌, ℕ, zero, suc, ◌+◌, ◌-◌, ◌<◌, ◌≤◌, Bool, true, false, List, [], ◌∷◌, ◌++◌, cond, nat_eq, All, AllPairs, map, length, get_or, take, drop, set, sum_by, refl, sym, ap, subst, inl, inr, arith, append_assoc, length-append, length-drop}
 use Rattle.std.specs.List.{AllByRecursion}
 use Rattle.std.specs.List.Sorted.{IsStrictlyIncreasing}
 use Rattle.std.proofs.lemmas.Bool.Decides.{eqb_tells}
-use Rattle.std.proofs.lemmas.List.{get_or-map, get_or-drop, length-map, map-append, take_more_set, drop_more, drop-drop, drop-set-lt, take_all, drop_all}
+use Rattle.std.proofs.lemmas.List.{get_or-map, get_or-drop, length-map, map-append, take_more_set, drop_more, drop-drop, drop-set-lt}
 use Rattle.std.proofs.lemmas.List.Elements.{All-set}
 use Rattle.std.proofs.lemmas.List.Sums.{sum_by-set}
 use Rattle.std.proofs.lemmas.Simd.{map-map}
@@ -17,6 +17,7 @@ use Rattle.arc_map.specs.Work.{vertex_in}
 use Rattle.arc_map.specs.Live.{live_chain, IsLive, AreJoined}
 use Rattle.arc_map.specs.Rejoin.{run_of, tails, rejoined}
 use Rattle.arc_map.specs.declared.work.LiveChain.{LiveChain}
+use Rattle.arc_map.proofs.Cutting.{edges_of_pairs}
 use Rattle.arc_map.proofs.Rejoining.{run_of-cons}
 
 -- ---- one chain
@@ -29,11 +30,6 @@ rising_gap xs rising (suc k) within =
     let step = rising k (omega arith) in
     let next : k + 1 ≡ suc k = omega arith in
     omega (arith, rw next at step)
-
-each_distinct : (v : Place) (vs : List Place) → AllPairs (λ p q. p ≢ q) (v ∷ vs) → EachEdge (λ p q. p ≢ q) v vs
-each_distinct v [] distinct = tt
-each_distinct v (w ∷ ws) distinct =
-    (distinct 0 1 v (omega arith) (omega arith), each_distinct w ws (λ i j d before within. distinct (suc i) (suc j) d (omega arith) (omega arith)))
 
 end_place : (v : Place) (vs : List Place) (d : Place) → get_or (v ∷ vs) (length vs) d ≡ end_of v vs
 end_place v [] d = refl
@@ -61,7 +57,7 @@ walk_from m c n ns numbers live =
     record {
       rest = map position ns;
       positions = positions;
-      edges = each_distinct (position c.place.«from») (map position ns) (subst (AllPairs (λ p q. p ≢ q)) positions live.distinct);
+      edges = edges_of_pairs (λ p q. p ≢ q) (position c.place.«from») (map position ns) (subst (AllPairs (λ p q. p ≢ q)) positions live.distinct);
       last =
           sym (end_place (position c.place.«from») (map position ns) nowhere)
           ∙ ap (λ ps. get_or ps (length (map position ns)) nowhere) (sym positions ∙ live.positions)
@@ -133,7 +129,7 @@ of_arc number c =
 run_of-other : (number : ℕ) (c : LiveChain) (cs : List LiveChain) → nat_eq c.place.arc number ≡ false → run_of number (c ∷ cs) ≡ []
 run_of-other number c cs e = ap (λ b. cond b (c ∷ run_of number cs) []) e
 
-each_append : (P : Place → Place → Type 0) (v : Place) (ws us : List Place) → EachEdge P v ws → EachEdge P (end_of v ws) us → EachEdge P v (ws ++ us)
+pub each_append : (P : Place → Place → Type 0) (v : Place) (ws us : List Place) → EachEdge P v ws → EachEdge P (end_of v ws) us → EachEdge P v (ws ++ us)
 each_append P v [] us first later = later
 each_append P v (w ∷ ws) us first later = (first.0, each_append P w ws us first.1 later)
 
@@ -347,11 +343,3 @@ settle_more m cs arcs number next walks linked below old =
       proper = All-set IsArc arcs number new (subst (λ ps. IsArc (rejoined ps run)) (sym coming.arc) coming.joined.proper) old.proper;
       fewer = omega (arith, sum, shorter, fewer);
     }
-
--- after the last arc all are settled
-pub all_settled : (m : Map) (cs : List LiveChain) (arcs : List (List Place)) (number next : ℕ) → length arcs ≡ number → length m.arcs ≤ number → IsSettled m cs arcs number next → arcs ≡ arcs_now 0 m.arcs (map (live_chain m) cs)
-all_settled m cs arcs number next count past settled =
-    sym (append-nil arcs)
-    ∙ ap (λ ps. ps ++ []) (sym (take_all number arcs (omega arith)))
-    ∙ ap (λ pss. take number arcs ++ arcs_now number pss (map (live_chain m) (drop next cs))) (sym (drop_all number m.arcs past))
-    ∙ settled.settled

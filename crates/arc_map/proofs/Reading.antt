@@ -112,7 +112,7 @@ chains_read m (r ∷ rs) (c ∷ cs) read lie =
     let rest = chains_read m rs cs read.1 (All-tail (LiesInArc m) r rs lie) in
     cc
 
-end_of_run : (m : Map) (arc at n : ℕ) → end_of (vertex_in m arc at) (map (vertex_in m arc) (range_with_len (at + 1) n)) ≡ vertex_in m arc (at + n)
+pub end_of_run : (m : Map) (arc at n : ℕ) → end_of (vertex_in m arc at) (map (vertex_in m arc) (range_with_len (at + 1) n)) ≡ vertex_in m arc (at + n)
 end_of_run m arc at zero = ap (vertex_in m arc) (omega arith)
 end_of_run m arc at (suc n) = end_of_run m arc (at + 1) n ∙ ap (vertex_in m arc) (omega arith)
 

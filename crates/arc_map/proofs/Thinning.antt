@@ -37,7 +37,7 @@ pub numbered_places : (m : Map) (r : ChainRef) (numbers : List ℕ) → 1 ≤ le
 numbered_places m r numbers some first =
     ap places (numbered_vertices m r numbers some first) ∙ map-map (λ v. v.place) (vertex_in m r.arc) numbers
 
-length_rest : (xs : List ℕ) → length (drop 1 xs) ≡ length xs - 1
+pub length_rest : (xs : List ℕ) → length (drop 1 xs) ≡ length xs - 1
 length_rest [] = refl
 length_rest (x ∷ xs) = omega arith
 

@@ -4,13 +4,9 @@ use Rattle.grid_exact.specs.Geometry.{Place}
 use Rattle.grid_exact.specs.Walks.{EachEdge, end_of}
 use Rattle.grid_exact.specs.Runs.{IsEdgeOf}
 use Rattle.grid_exact.specs.declared.frame.Frame.{Frame}
+pub use Rattle.grid_exact.proofs.Walks.{edge_has}
 use Rattle.chain_side.specs.Along.{IsAlong, vertex_at}
 use Rattle.chain_side.proofs.AlongOrder.{then_along, IsPassed, Ahead, Behind}
-
-pub edge_has : (P : Place → Place → Type 0) (v : Place) (ws : List Place) (a b : Place) → EachEdge P v ws → IsEdgeOf v ws a b → P a b
-edge_has P v [] a b h e = absurd e
-edge_has P v (w ∷ ws) a b h (inl e) = subst (λ (x : Place). P x b) e.0 (subst (λ (y : Place). P v y) e.1 h.0)
-edge_has P v (w ∷ ws) a b h (inr e) = edge_has P w ws a b h.1 e
 
 -- the walk starts ahead of p
 pub ahead_from : (frame : Frame) (rising : Bool) (p v : Place) (ws : List Place) → EachEdge (IsAlong frame rising) v ws → IsAlong frame rising p v → EachEdge (IsPassed frame rising p) v ws

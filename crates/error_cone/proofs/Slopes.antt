@@ -8,7 +8,7 @@ use Rattle.grid_exact.specs.declared.frame.Frame.{Frame}
 use Rattle.grid_exact.specs.declared.frame.Frame.TheVariants.{Plain, Turned}
 use Rattle.grid_exact.proofs.WholeLaws.{sums, *ℤ-one}
 use Rattle.grid_exact.proofs.Signs.{Negative, Zero, Positive, sign_of, at_most_or_above, times_nonnegative, times_positive, nonnegative_from_times}
-use Rattle.grid_exact.proofs.Orders.{before_yes, tested, Yes, No, no_times}
+use Rattle.grid_exact.proofs.Orders.{tested, Yes, No, no_times}
 use Rattle.grid_exact.proofs.Polynomial.{Whole, ◌⊕◌, ◌⊖◌, ◌⊗◌, ◌≈◌, identity_2, identity_6}
 use Rattle.chain_side.specs.Along.{IsAlong}
 use Rattle.error_cone.specs.Ways.{step_of, way_of, is_forward, mirrored, IsUnder}
@@ -33,20 +33,8 @@ forward_before : (w : Way) → IsBefore start_of_all (end_of_way w) → GoesForw
 forward_before w (Left h) = record { across = omega (arith, sums); up = λ e. absurd (omega (arith, sums)) }
 forward_before w (Below e h) = record { across = omega (arith, sums); up = λ f. h }
 
-before_forward : (w : Way) → GoesForward w → IsBefore start_of_all (end_of_way w)
-before_forward w h =
-    let low = h.across in
-    elim (sign_of w.across) [
-      | Negative n ↦ absurd (omega (arith, sums))
-      | Zero z ↦ Below (sym z) (h.up z)
-      | Positive p ↦ Left p
-    ]
-
 pub forward_by : (w : Way) → IsTrue (is_forward w) → GoesForward w
 forward_by w h = elim (tested start_of_all (end_of_way w)) [ Yes e k ↦ forward_before w k | No e k ↦ absurd (denied (is_before start_of_all (end_of_way w)) e h) ]
-
-pub by_forward : (w : Way) → GoesForward w → IsTrue (is_forward w)
-by_forward w h = before_yes start_of_all (end_of_way w) (before_forward w h)
 
 step_forward : (a b : Place) → IsBefore a b → GoesForward (step_of Plain a b)
 step_forward a b (Left h) = record { across = omega (arith, sums); up = λ e. absurd (omega (arith, sums)) }

@@ -28,7 +28,7 @@ impl Cone {
     ghost use Rattle.error_cone.specs.Cone.{Lets, StartsAt, IsPast, Passes};
 
     /// A cone at this start that lets every point past it. `rising` tells whether the chain rises in the order of the frame, or
-    /// falls.
+    /// falls. The bound is in grid units; where the points are weighted ones, in units of them.
     pub fn start(frame: Frame, rising: bool, from: Point, bound: Bound) -> Cone
         ensures origin { StartsAt result frame rising from bound }
         ensures lets { (v : Place) → IsPast result v → Lets result v }

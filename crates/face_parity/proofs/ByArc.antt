@@ -2,7 +2,7 @@
 use Rattle.std.proofs.Common.{◌≡◌, ◌≢◌, ◌∙◌, ℕ, zero, suc, ◌+◌, ◌*◌, ◌/◌, ◌^◌, ◌<◌, ◌≤◌, ◌==◌, Bool, true, false, List, [], ◌∷◌, All, AllPairs, Contains, drop, length, get_or, map, refl, sym, ap, subst, arith, inl, inr, ◌++◌}
 use Rattle.std.specs.Prelude.{◌&&◌}
 use Rattle.std.proofs.Math.ListN.{get_or-eq_default}
-use Rattle.std.proofs.lemmas.Bool.{and_left, and_parts, and_right, cases_Bool, cases_eq, cases_lt, eq-eqb, eqb-true, ne_eqb, true≢false}
+use Rattle.std.proofs.lemmas.Bool.{and_parts, and_right, cases_Bool, cases_eq, cases_lt, eq-eqb, eqb-true, ne_eqb, true≢false}
 use Rattle.std.proofs.lemmas.List.{get_or-map, length-map}
 use Rattle.std.proofs.lemmas.List.Elements.{All-cons, All-contains, All-filter, All-get_or, All-map, All-nil, All-weaker, Contains-get_or, at_from_Contains, filter_passes, All-append, Contains-append_left, Contains-append_right}
 use Rattle.std.proofs.lemmas.List.Kept.{AllPairs-cons, AllPairs-filter}
@@ -184,20 +184,12 @@ module _ (m : Map) (floors : Floors) (runs : List Run) (limits : Limits) (width 
 
 -- ---- one run after another
 
--- where a run is not crossed, no polygon is turned
-pub not-crossed : (m : Map) (p : Place) (k : ℕ) (r : Run) (odd crossed : Bool) → crossed ≡ is_run_crossed m p r → crossed ≡ false → odd ≡ differ odd (turns m p k r)
-not-crossed m p k r odd crossed is none = sym (ap (differ odd) (and_left (is_run_crossed m p r) (pass_oddly (λ arc. arc == r.arc) (get_or m.polygons k [])) (sym is ∙ none)) ∙ differ_false odd)
-
 -- where the floor of a run is above y, no polygon with a floor that is not above it is turned
 pub not-floored : (m : Map) (p : Place) (y k : ℕ) (r : Run) (odd : Bool) → y < r.floor → IsFloored m y k r → odd ≡ differ odd (turns m p k r)
 not-floored m p y k r odd above floored = elim (cases_Bool (pass_oddly (λ arc. arc == r.arc) (get_or m.polygons k []))) [
   | inl named ↦ let low = floored (named-held r.arc (get_or m.polygons k []) named) in absurd (omega (arith, low, above))
   | inr unnamed ↦ sym (ap (differ odd) (and_right (is_run_crossed m p r) (pass_oddly (λ arc. arc == r.arc) (get_or m.polygons k [])) unnamed) ∙ differ_false odd)
 ]
-
--- where a run is crossed, the polygons that name its arc are turned
-pub is-crossed : (m : Map) (p : Place) (k : ℕ) (r : Run) (crossed by : Bool) → crossed ≡ is_run_crossed m p r → crossed ≡ true → by ≡ pass_oddly (λ arc. arc == r.arc) (get_or m.polygons k []) → by ≡ turns m p k r
-is-crossed m p k r crossed by is holds named = named ∙ ap (λ b. b && pass_oddly (λ arc. arc == r.arc) (get_or m.polygons k [])) (sym holds ∙ is)
 
 -- the arc of a run is an arc of the map
 pub arc-in : (m : Map) (arc at : ℕ) → at < length (arc_at m arc) → arc < length m.arcs

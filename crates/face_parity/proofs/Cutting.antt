@@ -3,7 +3,7 @@ use Rattle.std.proofs.Common.{◌≡◌, ◌∙◌, ℕ, zero, suc, ◌+◌, ◌
 use Rattle.std.specs.Prelude.{◌&&◌, sum_by}
 use Rattle.std.proofs.lemmas.Bool.{and_right, cases_eq, cases_lt, eq-eqb, ne_eqb}
 use Rattle.std.proofs.lemmas.List.{drop_more, get_or_past, take_all}
-use Rattle.std.proofs.lemmas.List.Elements.{All-nil, All-push, All-weaker}
+use Rattle.std.proofs.lemmas.List.Elements.{All-push, All-weaker}
 use Rattle.std.proofs.lemmas.List.Sums.{sum_by-cons}
 use Rattle.grid_exact.specs.Geometry.{Place}
 use Rattle.grid_exact.specs.Crossing.{is_crossed}
@@ -63,9 +63,6 @@ of-arc m p k r same = ap (λ b. is_run_crossed m p r && b) (eq-eqb k r.arc (sym 
 
 none-of-later : (m : Map) (p : Place) (arc k : ℕ) (runs : List Run) → arc ≤ k → All (λ r. r.arc < arc) runs → pass_oddly (is_part_crossed m p k) runs ≡ false
 none-of-later m p arc k runs later before = pass-none (is_part_crossed m p k) runs (All-weaker (λ r. r.arc < arc) (λ r. is_part_crossed m p k r ≡ false) (λ r less. not-part m p k r (λ same. omega (arith, same, less, later))) runs before)
-
-pub runs-none : (m : Map) (floors : Floors) → AreRunsBefore m floors 0 []
-runs-none m floors = record { only = All-nil (IsRunOf m floors); before = All-nil (λ r. r.arc < 0); crossed = λ p k none. absurd (omega (arith, none)) }
 
 pub runs-start : (m : Map) (floors : Floors) (arc : ℕ) (runs : List Run) → AreRunsBefore m floors arc runs → AreRunsTo m floors arc 0 runs
 runs-start m floors arc runs are = record {

@@ -54,12 +54,6 @@ floor-by-pairs spans refs ends sorted low is moves paired lows = record {
   even = λ x y less. sym (pass-ends spans x refs) ∙ ap (pass_oddly (λ e. nat_lt e x)) (sym is) ∙ sym (pass-permutation (λ e. nat_lt e x) ends sorted moves) ∙ paired (λ e. nat_lt e x);
 }
 
-pub floor-none : (spans : List Span) (refs : List ℕ) → IsFloorOver spans refs 0
-floor-none spans refs = record {
-  low = λ k d within. omega arith;
-  even = λ x y less. absurd (omega (arith, less));
-}
-
 -- the ends of an arc more
 pub ends-more : (spans : List Span) (refs : List ℕ) (i : ℕ) (old mid new whole : List ℕ) → i < length refs → mid ≡ old ++ (span_at spans (get_or refs i 0)).ends.first ∷ [] → new ≡ mid ++ (span_at spans (get_or refs i 0)).ends.last ∷ [] → old ++ ends_along spans (drop i refs) ≡ whole → new ++ ends_along spans (drop (i + 1) refs) ≡ whole
 ends-more spans refs i old mid new whole within first last so_far =
@@ -126,14 +120,6 @@ pub record AreFloorsTo (m : Map) (count : ℕ) (polygons arcs : List ℕ) : Type
   pub of_arcs : length arcs ≡ length m.arcs
   pub outside : (k : ℕ) → k < count → IsFloorOf m k (slice_index polygons k)
   pub under : (k arc : ℕ) → k < count → Contains (get_or m.polygons k []) arc → slice_index arcs arc ≤ slice_index polygons k
-
-pub floors-none : (m : Map) (arcs : List ℕ) → length arcs ≡ length m.arcs → AreFloorsTo m 0 [] arcs
-floors-none m arcs count = record {
-  of_polygons = refl;
-  of_arcs = count;
-  outside = λ k none. absurd (omega (arith, none));
-  under = λ k arc none held. absurd (omega (arith, none));
-}
 
 pub floors-more : (m : Map) (count floor : ℕ) (polygons old new refs : List ℕ) → slice_get m.polygons count ≡ Some refs → IsFloorOf m count floor → length new ≡ length old → ((arc : ℕ) → slice_index new arc ≤ slice_index old arc) → ((arc : ℕ) → Contains refs arc → slice_index new arc ≤ floor) → AreFloorsTo m count polygons old → AreFloorsTo m (count + 1) (polygons ++ floor ∷ []) new
 floors-more m count floor polygons old new refs is below same lower under are =

@@ -4,7 +4,7 @@ use Rattle.std.specs.Prelude.{◌&&◌, slice_get}
 use Rattle.std.specs.List.Sorted.{IsNonDecreasingBy, IsPermutation}
 use Rattle.std.proofs.lemmas.Bool.{and_left, and_right, cases_lt, eq-eqb, ne_eqb}
 use Rattle.std.proofs.lemmas.List.{get_or-drop, get_or-take, get_or_default, length-drop, length-take-le, take-append-drop}
-use Rattle.std.proofs.lemmas.List.Elements.{All-append, All-map, All-nil, All-weaker}
+use Rattle.std.proofs.lemmas.List.Elements.{All-append, All-map, All-weaker}
 use Rattle.std.proofs.lemmas.List.Sorted.{All-permutation}
 use Rattle.std.proofs.lemmas.Option.{get_or_from_slice_get}
 use Rattle.grid_exact.specs.Walks.{differ}
@@ -118,9 +118,6 @@ module _ (ns : List Naming) (arc start end : ℕ) (first : IsStartOf ns arc star
 pub record AreNamingsTo (polygons : List (List ℕ)) (count : ℕ) (ns : List Naming) : Type 0 where
   pub below : All (λ n. n.polygon < count) ns
   pub odd : (arc polygon : ℕ) → polygon < count → pass_oddly (is_naming arc polygon) ns ≡ pass_oddly (λ a. a == arc) (get_or polygons polygon [])
-
-pub namings-none : (polygons : List (List ℕ)) → AreNamingsTo polygons 0 []
-namings-none polygons = record { below = All-nil (λ n. n.polygon < 0); odd = λ arc polygon none. absurd (omega (arith, none)) }
 
 not-by : (arc polygon : ℕ) (n : Naming) → (n.polygon ≡ polygon → ⊥) → is_naming arc polygon n ≡ false
 not-by arc polygon n apart = and_right (n.arc == arc) (n.polygon == polygon) (ne_eqb n.polygon polygon apart)

@@ -14,9 +14,6 @@ use Rattle.face_parity.specs.declared.cells.Celled.{Celled}
 use Rattle.face_parity.specs.declared.cells.Limits.{Limits}
 use Rattle.face_parity.specs.declared.runs.Run.{Run}
 
-in-row : ℕ → ℕ → InRow
-in-row number row = record { run = number; row = row }
-
 same-in-row : (k : InRow) (number row : ℕ) → k.run ≡ number → k.row ≡ row → k ≡ record { run = number; row = row }
 same-in-row k number row runs rows = ap (λ n. record { run = n; row = k.row }) runs ∙ ap (λ n. record { run = number; row = n }) rows
 

@@ -3,7 +3,7 @@ use Rattle.std.proofs.Common.{◌≡◌, ◌≢◌, ◌∙◌, ℕ, ◌<◌, ◌
 use Rattle.std.specs.Prelude.{◌⊎◌}
 use Rattle.std.specs.List.{list_any}
 use Rattle.std.specs.List.Sorted.{IsNonDecreasing}
-use Rattle.std.proofs.lemmas.Bool.{cases_eq, cases_lt, eqb-true, ne_eqb, or_cases, true≢false, false_from_ne_true}
+use Rattle.std.proofs.lemmas.Bool.{cases_eq, cases_lt, eqb-true, ne_eqb, or_cases, true≢false}
 use Rattle.std.proofs.lemmas.List.Elements.{All-cons, All-head, All-nil, All-push, All-tail, All-weaker, Contains-append_left, Contains-push}
 use Rattle.std.proofs.lemmas.Map.Keys.{IsDistinct-from_apart}
 use Rattle.std.proofs.lemmas.Map.Steps.{length-le_from_distinct_below}
@@ -63,10 +63,6 @@ listed-push marks ks at k listed marked = elim (marked-cases marks at k marked) 
 
 pub marked-push : (marks : List Bool) (ks : List ℕ) (at : ℕ) → at < length marks → All (λ k. get_or marks k false ≡ true) ks → All (λ k. get_or (set marks at true) k false ≡ true) (ks ++ at ∷ [])
 marked-push marks ks at within marked = All-push (λ k. get_or (set marks at true) k false ≡ true) ks at (All-weaker (λ k. get_or marks k false ≡ true) (λ k. get_or (set marks at true) k false ≡ true) (λ k is. marked-still marks at k within is) ks marked) (get_or-set_same marks at true false within)
-
--- the marks that are left are of those taken away
-pub none-left : (before after : List Bool) (ks : List ℕ) → ((k : ℕ) → get_or before k false ≡ true → Contains ks k) → ((k : ℕ) → get_or after k false ≡ true → get_or before k false ≡ true) → ((k : ℕ) → Contains ks k → get_or after k false ≡ false) → (k : ℕ) → get_or after k false ≡ false
-none-left before after ks listed left gone k = false_from_ne_true (get_or after k false) (λ marked. true≢false (sym marked ∙ gone k (listed k (left k marked))))
 
 -- different numbers in order rise
 pub rising-from : (ks : List ℕ) → IsNonDecreasing ks → AllPairs (λ j k. j ≢ k) ks → AllPairs (λ j k. j < k) ks

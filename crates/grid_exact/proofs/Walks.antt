@@ -1,8 +1,9 @@
 -- How many edges of a walk pass a test, odd or even, and that closed walks are crossed and crossed sideways alike.
-use Rattle.std.proofs.Common.{◌≡◌, ◌-◌, ◌<◌, suc, Bool, true, false, List, [], ◌∷◌, ◌++◌, length, get_or, refl, sym, ap, ◌∙◌, arith}
+use Rattle.std.proofs.Common.{◌≡◌, ◌-◌, ◌<◌, suc, Bool, true, false, List, [], ◌∷◌, ◌++◌, length, get_or, inl, inr, refl, sym, ap, subst, ◌∙◌, arith}
 use Rattle.grid_exact.specs.Geometry.{Place, IsBefore}
 use Rattle.grid_exact.specs.Crossing.{is_crossed, is_crossed_sideways, is_ahead}
 use Rattle.grid_exact.specs.Walks.{EachEdge, end_of, count_edges, is_odd, differ, IsOff}
+use Rattle.grid_exact.specs.Runs.{IsEdgeOf}
 use Rattle.grid_exact.proofs.Orders.{then_before}
 use Rattle.grid_exact.proofs.Crossings.{differ_false}
 use Rattle.grid_exact.proofs.Quadrants.{edge_parity}
@@ -87,6 +88,12 @@ end_is_last v (w ∷ []) d some = refl
 end_is_last v (w ∷ x ∷ xs) d some =
     let place : length (w ∷ x ∷ xs) - 1 ≡ suc (length (x ∷ xs) - 1) = omega arith in
     rw place (end_is_last w (x ∷ xs) d (omega arith))
+
+-- a property of each edge is one of this edge
+pub edge_has : {A : Type 0} (P : A → A → Type 0) (v : A) (ws : List A) (a b : A) → EachEdge P v ws → IsEdgeOf v ws a b → P a b
+edge_has P v [] a b h e = absurd e
+edge_has P v (w ∷ ws) a b h (inl e) = subst (λ x. P x b) e.0 (subst (λ y. P v y) e.1 h.0)
+edge_has P v (w ∷ ws) a b h (inr e) = edge_has P w ws a b h.1 e
 
 pub each_edge_mapped : {A : Type 0} (P Q : A → A → Type 0) → ((a b : A) → P a b → Q a b) → (v : A) (ws : List A) → EachEdge P v ws → EachEdge Q v ws
 each_edge_mapped P Q f v [] h = tt

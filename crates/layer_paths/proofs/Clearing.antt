@@ -1,6 +1,6 @@
 -- Words that are cleared one after another, and the bits of a row of them.
-use Rattle.std.proofs.Common.{◌≡◌, ◌≢◌, ◌⊎◌, inl, inr, ℕ, ◌+◌, ◌*◌, ◌/◌, ◌%◌, ◌<◌, ◌≤◌, List, length, slice_index, slice_set, get_or-set_same, get_or-set_other, false, ◌==◌, ap, ◌∙◌, arith}
-use Rattle.std.proofs.lemmas.Bool.{cases_eq, cases_lt}
+use Rattle.std.proofs.Common.{◌≡◌, ◌≢◌, ◌⊎◌, inl, inr, ℕ, ◌+◌, ◌*◌, ◌/◌, ◌%◌, ◌<◌, ◌≤◌, List, slice_index, false, ◌==◌, ap, ◌∙◌, arith}
+use Rattle.std.proofs.lemmas.Bool.{cases_lt}
 use Rattle.std.proofs.lemmas.Nat.Bits.{bit_at-zero}
 use Rattle.std.specs.Int.{bit_at}
 use Rattle.layer_paths.specs.Bits.{has_bit}
@@ -9,19 +9,6 @@ use Rattle.layer_paths.specs.Bits.{has_bit}
 pub record AreCleared (old new : List ℕ) (from to : ℕ) : Type 0 where
   pub inside : (k : ℕ) → from ≤ k → k < to → slice_index new k ≡ 0
   pub outside : (k : ℕ) → (k < from) ⊎ (to ≤ k) → slice_index new k ≡ slice_index old k
-
-pub cleared_more : (old new : List ℕ) (from at : ℕ) → from ≤ at → at < length new → AreCleared old new from at → AreCleared old (slice_set new at 0) from (at + 1)
-cleared_more old new from at low within h =
-    record {
-      inside = λ k after before. elim (cases_eq k at) [
-        | inl e ↦ ap (λ (n : ℕ). slice_index (slice_set new at 0) n) e ∙ get_or-set_same new at 0 0 within
-        | inr e ↦ get_or-set_other new at k 0 0 e ∙ h.inside k after (omega (arith, e))
-      ];
-      outside = λ k out.
-          let apart : k ≢ at = elim out [ inl l ↦ λ e. omega (arith, l, e) | inr l ↦ λ e. omega (arith, l, e) ] in
-          let before : (k < from) ⊎ (at ≤ k) = elim out [ inl l ↦ inl l | inr l ↦ inr (omega (arith, l)) ] in
-          get_or-set_other new at k 0 0 apart ∙ h.outside k before;
-    }
 
 -- the bits of a row whose words are cleared
 pub row_clear : (old new : List ℕ) (i j : ℕ) → AreCleared old new (16 * i) (16 * (i + 1)) → j < 1024 → has_bit new i j ≡ false

@@ -7,7 +7,6 @@ use Rattle.std.proofs.lemmas.List.FromFn.{length-map-range_with_len, take-map-ra
 use Rattle.std.proofs.Math.Seq.{take-append_seam}
 use Rattle.std.proofs.lemmas.List.{length-append}
 use Rattle.grid_exact.specs.Geometry.{Place}
-use Rattle.grid_exact.specs.Walks.{end_of}
 use Rattle.grid_exact.specs.declared.frame.Frame.{Frame}
 use Rattle.grid_exact.specs.declared.frame.Frame.TheVariants.{Plain, Turned}
 use Rattle.arc_map.specs.Map.{Map}
@@ -16,6 +15,7 @@ use Rattle.grid_exact.specs.Runs.{IsMonotone}
 use Rattle.arc_map.specs.Chains.{Chain}
 use Rattle.arc_map.specs.Arcs.{vertex, is_first, vertices_from, most_edges, IsFurthest, IsNextChain, IsCutInto}
 use Rattle.arc_map.specs.Arcs.IsNextChain.{PlainReaches, TurnedReaches}
+use Rattle.arc_map.proofs.Reading.{end_of_run}
 use Rattle.arc_map.specs.Arranged.{arc_at, nowhere, position_at, is_arc_end}
 use Rattle.arc_map.specs.Work.{vertex_in, chain_in}
 use Rattle.arc_map.specs.declared.refs.ChainRef.{ChainRef}
@@ -35,7 +35,7 @@ all_after m arc start = run_after m arc start (length (arc_at m arc) - (start + 
 vertex_same : (m : Map) (arc at : ℕ) (b : Bool) (p : Place) → is_arc_end m arc at ≡ b → position_at m arc at ≡ p → vertex_in m arc at ≡ vertex arc at b p
 vertex_same m arc at b p e f = ap (λ (c : Bool). vertex arc at c (position_at m arc at)) e ∙ ap (λ (q : Place). vertex arc at b q) f
 
-first_place : (l : List Place) (at : ℕ) (p : Place) (ps : List Place) → drop at l ≡ p ∷ ps → get_or l at nowhere ≡ p
+pub first_place : (l : List Place) (at : ℕ) (p : Place) (ps : List Place) → drop at l ≡ p ∷ ps → get_or l at nowhere ≡ p
 first_place l at p ps e =
     let here : at + 0 ≡ at = omega arith in
     ap (λ (k : ℕ). get_or l k nowhere) (sym here) ∙ sym (get_or-drop at l 0 nowhere) ∙ ap (λ (qs : List Place). get_or qs 0 nowhere) e
@@ -76,10 +76,6 @@ places_of_range m arc at (suc n) inside =
     ap (λ (ps : List Place). position_at m arc at ∷ ps) (places_of_range m arc (at + 1) n (omega arith))
     ∙ ap (λ (k : ℕ). position_at m arc at ∷ take n (drop k (arc_at m arc))) (add-one at)
     ∙ ap (λ (ps : List Place). take (suc n) ps) (sym (drop-cons (arc_at m arc) at nowhere (omega arith)))
-
-run_ends : (m : Map) (arc at n : ℕ) → end_of (vertex_in m arc at) (map (vertex_in m arc) (range_with_len (at + 1) n)) ≡ vertex_in m arc (at + n)
-run_ends m arc at zero = ap (vertex_in m arc) (omega arith)
-run_ends m arc at (suc n) = run_ends m arc (at + 1) n ∙ ap (vertex_in m arc) (omega arith)
 
 pub after_in_parts : (m : Map) (arc start n : ℕ) → start + n < length (arc_at m arc) → all_after m arc start ≡ run_after m arc start n ++ all_after m arc (start + n)
 after_in_parts m arc start n inside =
@@ -182,6 +178,6 @@ cut_before m arc start n frame ks edge run cut =
       next_made m arc start n frame edge run,
       all_after m arc (start + n),
       after_in_parts m arc start n reach.inside,
-      subst (λ (v : Vertex). IsCutInto v (all_after m arc (start + n)) ks) (sym (run_ends m arc start n)) cut,
+      subst (λ (v : Vertex). IsCutInto v (all_after m arc (start + n)) ks) (sym (end_of_run m arc start n)) cut,
       omega arith,
     )

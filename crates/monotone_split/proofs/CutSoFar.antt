@@ -86,9 +86,6 @@ pub record SplitSoFar (m : Map) (k : ℕ) (refs : List ChainRef) : Type 0 where
   pub short : All IsShort refs
   pub onward : (ks : List Chain) → AreChainsOf k (drop k m.arcs) ks → AreChainsOf 0 m.arcs (map (chain_in m) refs ++ ks)
 
-pub split_begins : (m : Map) → SplitSoFar m 0 []
-split_begins m = record { lie = All-from_recursion (LiesInArc m) [] tt; short = All-from_recursion IsShort [] tt; onward = λ ks are. are }
-
 pub split_goes_on : (m : Map) (k : ℕ) (refs later : List ChainRef) → k < length m.arcs → SplitSoFar m k refs → AddsChainsOf m k refs later → SplitSoFar m (k + 1) later
 split_goes_on m k refs later known h adds =
     subst (λ (rs : List ChainRef). SplitSoFar m (k + 1) rs) (sym adds.behind)

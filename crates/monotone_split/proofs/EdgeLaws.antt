@@ -1,5 +1,5 @@
 -- The laws of an edge of another chain, beside a run and beside the shortcut that takes its place.
-use Rattle.std.proofs.Common.{◌≡◌, ◌⊎◌, ◌∙◌, inl, inr, ℕ, ℤ, pos, ◌*ℤ◌, List, [], ◌∷◌, ◌++◌, sym, ap, subst}
+use Rattle.std.proofs.Common.{◌≡◌, ◌⊎◌, ◌∙◌, inl, inr, ℕ, pos, ◌*ℤ◌, List, [], ◌∷◌, ◌++◌, sym, ap, subst}
 use Rattle.grid_exact.specs.Geometry.{Place, turned, IsBefore, IsOnSegment, CommonPoint}
 use Rattle.grid_exact.specs.Frame.{IsBeforeIn}
 use Rattle.grid_exact.specs.Spans.{IsUpTo, placed_in}
@@ -166,9 +166,6 @@ at_both v w c d lawful h =
       | EndAndStart e f m ↦ Third e f (end_is_start v.place w.place c.place d.place h e f)
       | Ends e f m ↦ Fourth e f (ends_are_one v.place w.place c.place d.place h e f)
     ]
-
-abbrev SameFraction : ℤ → ℤ → ℤ → ℤ → Type 0
-SameFraction n s m t = s *ℤ m ≡ t *ℤ n
 
 record AreOnePoint (a b c d : Place) (h k : CommonPoint a b c d) : Type 0 where
   first : h.first *ℤ k.denominator ≡ k.first *ℤ h.denominator

@@ -17,7 +17,7 @@ use Rattle.monotone_split.proofs.Parity.{parity_of_arcs}
 
 -- ---- nothing thinned yet: the arcs are those of the map
 
-places_from : (arc at : ℕ) (ps : List Place) → places (vertices_from arc at ps) ≡ ps
+pub places_from : (arc at : ℕ) (ps : List Place) → places (vertices_from arc at ps) ≡ ps
 places_from arc at [] = refl
 places_from arc at (p ∷ []) = refl
 places_from arc at (p ∷ q ∷ qs) = ap (λ (xs : List Place). p ∷ xs) (places_from arc (suc at) (q ∷ qs))

@@ -1,7 +1,6 @@
 -- A path of allowed pairs: its edges beside those of other chains, beside feature points and beside one another, and its crossings.
 use Rattle.std.proofs.Common.{◌≡◌, Bool, List, [], ◌∷◌, ◌++◌, refl, sym, ap, subst, ◌∙◌}
 use Rattle.grid_exact.specs.declared.frame.Frame.{Frame}
-use Rattle.grid_exact.specs.declared.frame.Frame.TheVariants.{Plain, Turned}
 use Rattle.grid_exact.specs.Geometry.{Place, IsBefore, IsOnSegment}
 use Rattle.grid_exact.specs.Frame.{IsBeforeIn}
 use Rattle.grid_exact.specs.Crossing.{is_crossed}
@@ -20,6 +19,7 @@ use Rattle.arc_map.specs.Allowed.{IsConsistent, IsAllowed, IsPath}
 use Rattle.arc_map.specs.Allowed.IsConsistent.{AtStart, AtEnd, SameSide}
 use Rattle.arc_map.specs.Allowed.IsAllowed.{Neighbours, Shortcut}
 use Rattle.arc_map.specs.Clear.{IsWithinChain, EachButLast}
+use Rattle.arc_map.proofs.Cutting.{before_in}
 use Rattle.monotone_split.proofs.RisingViews.{Increases, increases}
 use Rattle.monotone_split.proofs.WalkParts.{first_part, later_part, last_edge, first_edge, first_skipped, later_but_last, to_places, from_places, end_of-places, closed_walk-places, first_way, later_way}
 use Rattle.monotone_split.proofs.Shortcuts.{shortcut_meets_lawfully}
@@ -117,19 +117,15 @@ kept_in_order Allowed R passes v ws (w ∷ kept) h path =
     let h' = subst (λ (us : List Vertex). EachEdge R v us) path.2 h in
     (over_run R passes v path.0 w (first_part R v path.0 w path.1 h'), kept_in_order Allowed R passes w path.1 kept (later_part R v path.0 w path.1 h') path.4)
 
-then_before_in : (frame : Frame) (a b c : Place) → IsBeforeIn frame a b → IsBeforeIn frame b c → IsBeforeIn frame a c
-then_before_in Plain a b c h k = then_before a b c h k
-then_before_in Turned a b c h k = then_before _ _ _ h k
-
 pub kept_monotone : (Allowed : Vertex → List Vertex → Vertex → Type 0) (frame : Frame) (v : Vertex) (ws kept : List Vertex) → IsMonotone frame v.place (places ws) → IsPath Allowed v ws kept → IsMonotone frame v.place (places kept)
 kept_monotone Allowed frame v ws kept (Increasing h) path =
     Increasing
     (to_places (λ a b. IsBeforeIn frame a b) v kept
-    (kept_in_order Allowed (λ a b. IsBeforeIn frame a.place b.place) (λ a b c k l. then_before_in frame a.place b.place c.place k l) v ws kept (from_places (λ a b. IsBeforeIn frame a b) v ws h) path))
+    (kept_in_order Allowed (λ a b. IsBeforeIn frame a.place b.place) (λ a b c k l. before_in frame a.place b.place c.place k l) v ws kept (from_places (λ a b. IsBeforeIn frame a b) v ws h) path))
 kept_monotone Allowed frame v ws kept (Decreasing h) path =
     Decreasing
     (to_places (λ a b. IsBeforeIn frame b a) v kept
-    (kept_in_order Allowed (λ a b. IsBeforeIn frame b.place a.place) (λ a b c k l. then_before_in frame c.place b.place a.place l k) v ws kept (from_places (λ a b. IsBeforeIn frame b a) v ws h) path))
+    (kept_in_order Allowed (λ a b. IsBeforeIn frame b.place a.place) (λ a b c k l. before_in frame c.place b.place a.place l k) v ws kept (from_places (λ a b. IsBeforeIn frame b a) v ws h) path))
 
 -- ---- the edges of one chain
 

@@ -1,11 +1,11 @@
 -- The first and the later part of a walk, and its places.
-use Rattle.std.proofs.Common.{◌≡◌, inl, inr, subst, List, [], ◌∷◌, ◌++◌, refl, sym, ap, ◌∙◌}
+use Rattle.std.proofs.Common.{◌≡◌, List, [], ◌∷◌, ◌++◌, refl, sym, ap, ◌∙◌}
 use Rattle.grid_exact.specs.Geometry.{Place, IsBefore}
 use Rattle.grid_exact.specs.Walks.{end_of, EachEdge}
 use Rattle.arc_map.specs.Vertices.{Vertex, places}
-use Rattle.grid_exact.specs.Runs.{IsEdgeOf}
 use Rattle.arc_map.specs.Clear.{EachButLast}
 use Rattle.arc_map.specs.Edges.{EachOf}
+pub use Rattle.grid_exact.proofs.Walks.{edge_has}
 use Rattle.monotone_split.proofs.RisingViews.{Increases, ends_apart}
 
 -- ---- runs of a walk
@@ -17,12 +17,6 @@ first_part P v (k ∷ ks) w rest h = (h.0, first_part P k ks w rest h.1)
 pub later_part : {A : Type 0} (P : A → A → Type 0) (v : A) (skipped : List A) (w : A) (rest : List A) → EachEdge P v (skipped ++ w ∷ rest) → EachEdge P w rest
 later_part P v [] w rest h = h.1
 later_part P v (k ∷ ks) w rest h = later_part P k ks w rest h.1
-
--- a property of each edge is one of this edge
-pub edge_has : {A : Type 0} (P : A → A → Type 0) (v : A) (ws : List A) (a b : A) → EachEdge P v ws → IsEdgeOf v ws a b → P a b
-edge_has P v [] a b h e = absurd e
-edge_has P v (w ∷ ws) a b h (inl e) = subst (λ x. P x b) e.0 (subst (λ y. P v y) e.1 h.0)
-edge_has P v (w ∷ ws) a b h (inr e) = edge_has P w ws a b h.1 e
 
 -- the last edge of a run
 pub record LastEdge {A : Type 0} (P : A → A → Type 0) (w : A) : Type 0 where
