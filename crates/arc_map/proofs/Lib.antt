@@ -1,4 +1,5 @@
 pub mod Elements
+pub mod Keyed
 pub mod Flat
 pub mod Rising
 pub mod Keeping

@@ -14,4 +14,3 @@ pub mod Lowest
 pub mod Reaching
 pub mod Rounding
 pub mod Running
-pub mod OneCell

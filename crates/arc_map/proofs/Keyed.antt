@@ -1,12 +1,10 @@
--- The runs of one cell stand together.
+-- A list in order of a number of its elements: those with one number stand together.
 use Rattle.std.proofs.Common.{◌≡◌, ◌∙◌, ◌+◌, ◌<◌, ◌≤◌, ◌==◌, nat_lt, ℕ, Bool, true, false, List, [], ◌∷◌, ◌++◌, All, filter, length, get_or, take, drop, arith, refl, ap, sym, subst}
 use Rattle.std.specs.List.{AllWithin}
 use Rattle.std.specs.List.Sorted.{IsNonDecreasingBy, IsPartitionedBy}
 use Rattle.std.proofs.lemmas.Bool.{cond-false, cond-true, eq-eqb, eqb-true, false_from_ne_true, ltb-false, ltb-true}
 use Rattle.std.proofs.lemmas.List.{append-nil, get_or-drop, get_or-take, length-drop, length-take-le, take-append-drop}
 use Rattle.std.proofs.lemmas.List.Elements.{All-head, All-tail, filter-append}
-use Rattle.face_parity.specs.Celled.{in_cell}
-use Rattle.face_parity.specs.declared.cells.Celled.{Celled}
 
 -- ---- a run of elements that pass
 
@@ -41,27 +39,28 @@ filter_run p xs n m within inside front mid back =
     ∙ append-nil (filter p (take m (drop n xs)))
     ∙ filter_all p (take m (drop n xs)) mid
 
--- ---- one cell
+-- ---- the elements with one number
 
-other_cell : (a b : ℕ) → (a ≡ b → ⊥) → (a == b) ≡ false
-other_cell a b apart = false_from_ne_true (a == b) (λ same. apart (eqb-true a b same))
+other_key : (a b : ℕ) → (a ≡ b → ⊥) → (a == b) ≡ false
+other_key a b apart = false_from_ne_true (a == b) (λ same. apart (eqb-true a b same))
 
--- the runs behind those of earlier cells are in order, those of the cell first
-pub cell_first : (celled : List Celled) (cell start : ℕ) → IsNonDecreasingBy (λ s. s.cell) celled → start ≤ length celled → AllWithin (λ s. nat_lt s.cell cell ≡ false) celled start (length celled) → IsPartitionedBy (λ s. s.cell == cell) (drop start celled)
-cell_first celled cell start sorted within late i j d le below same =
-    let long = length-drop start celled in
-    let first = get_or-drop start celled i d in
-    let second = get_or-drop start celled j d in
-    let is : (get_or (drop start celled) j d).cell ≡ cell = eqb-true (get_or (drop start celled) j d).cell cell same in
-    let rises : (get_or celled (start + i) d).cell ≤ (get_or celled (start + j) d).cell = sorted (start + i) (start + j) d (omega (arith, le)) (omega (arith, below, long, within)) in
-    let least = ltb-false (get_or celled (start + i) d).cell cell (late (start + i) d (omega arith) (omega (arith, le, below, long, within))) in
-    let here : (get_or (drop start celled) i d).cell ≡ (get_or celled (start + i) d).cell = ap (λ (s : Celled). s.cell) first in
-    let there : (get_or (drop start celled) j d).cell ≡ (get_or celled (start + j) d).cell = ap (λ (s : Celled). s.cell) second in
-    eq-eqb (get_or (drop start celled) i d).cell cell (omega (arith, is, rises, least, here, there))
+-- behind the elements with lesser numbers the list is in order, those with this number first
+pub key_first : {X : Type 0} (key : X → ℕ) (xs : List X) (k start : ℕ) → IsNonDecreasingBy key xs → start ≤ length xs → AllWithin (λ x. nat_lt (key x) k ≡ false) xs start (length xs) → IsPartitionedBy (λ x. key x == k) (drop start xs)
+key_first key xs k start sorted within late i j d le below same =
+    let long = length-drop start xs in
+    let first = get_or-drop start xs i d in
+    let second = get_or-drop start xs j d in
+    let is : key (get_or (drop start xs) j d) ≡ k = eqb-true (key (get_or (drop start xs) j d)) k same in
+    let rises : key (get_or xs (start + i) d) ≤ key (get_or xs (start + j) d) = sorted (start + i) (start + j) d (omega (arith, le)) (omega (arith, below, long, within)) in
+    let least = ltb-false (key (get_or xs (start + i) d)) k (late (start + i) d (omega arith) (omega (arith, le, below, long, within))) in
+    let here : key (get_or (drop start xs) i d) ≡ key (get_or xs (start + i) d) = ap key first in
+    let there : key (get_or (drop start xs) j d) ≡ key (get_or xs (start + j) d) = ap key second in
+    eq-eqb (key (get_or (drop start xs) i d)) k (omega (arith, is, rises, least, here, there))
 
-pub cell_is : (celled : List Celled) (cell start count : ℕ) → start ≤ length celled → count ≤ length (drop start celled) → AllWithin (λ s. nat_lt s.cell cell ≡ true) celled 0 start → AllWithin (λ s. (s.cell == cell) ≡ true) (drop start celled) 0 count → AllWithin (λ s. (s.cell == cell) ≡ false) (drop start celled) count (length (drop start celled)) → take count (drop start celled) ≡ in_cell cell celled
-cell_is celled cell start count within inside before here behind =
-    sym (filter_run (λ s. s.cell == cell) celled start count within inside
-    (front_all (λ s. (s.cell == cell) ≡ false) celled start within (λ k d from below. other_cell (get_or celled k d).cell cell (λ same. let less = ltb-true (get_or celled k d).cell cell (before k d from below) in omega (arith, less, same))))
-    (front_all (λ s. (s.cell == cell) ≡ true) (drop start celled) count inside here)
-    (back_all (λ s. (s.cell == cell) ≡ false) (drop start celled) count inside behind))
+-- and they are all of them
+pub key_is : {X : Type 0} (key : X → ℕ) (xs : List X) (k start count : ℕ) → start ≤ length xs → count ≤ length (drop start xs) → AllWithin (λ x. nat_lt (key x) k ≡ true) xs 0 start → AllWithin (λ x. (key x == k) ≡ true) (drop start xs) 0 count → AllWithin (λ x. (key x == k) ≡ false) (drop start xs) count (length (drop start xs)) → take count (drop start xs) ≡ filter (λ x. key x == k) xs
+key_is key xs k start count within inside before here behind =
+    sym (filter_run (λ x. key x == k) xs start count within inside
+    (front_all (λ x. (key x == k) ≡ false) xs start within (λ i d from below. other_key (key (get_or xs i d)) k (λ same. let less = ltb-true (key (get_or xs i d)) k (before i d from below) in omega (arith, less, same))))
+    (front_all (λ x. (key x == k) ≡ true) (drop start xs) count inside here)
+    (back_all (λ x. (key x == k) ≡ false) (drop start xs) count inside behind))
