@@ -71,13 +71,13 @@ decimal_lacks byte other n h = digits_lack byte other (decimal n) (decimal_is_Is
 one_lacks : (byte b : ℕ) (bs : List ℕ) → (b == byte) ≡ false → lacks byte bs ≡ true → lacks byte (b ∷ bs) ≡ true
 one_lacks byte b bs other rest = and_from _ _ (ap not other) rest
 
-further_lack : (byte : ℕ) → IsMark byte → (ns : List ℕ) → All IsSmall ns → lacks byte (further (map decimal ns)) ≡ true
+pub further_lack : (byte : ℕ) → IsMark byte → (ns : List ℕ) → All IsSmall ns → lacks byte (further (map decimal ns)) ≡ true
 further_lack byte mark [] all = refl
 further_lack byte mark (n ∷ ns) all =
     let small = All-head IsSmall n ns all in
     lacks_both byte (44 ∷ decimal n) (further (map decimal ns)) (one_lacks byte 44 (decimal n) mark.comma (decimal_lacks byte mark.digit n (omega arith))) (further_lack byte mark ns (All-tail IsSmall n ns all))
 
-numbers_lack : (byte : ℕ) → IsMark byte → (ns : List ℕ) → All IsSmall ns → lacks byte (numbers_text ns) ≡ true
+pub numbers_lack : (byte : ℕ) → IsMark byte → (ns : List ℕ) → All IsSmall ns → lacks byte (numbers_text ns) ≡ true
 numbers_lack byte mark [] all = one_lacks byte 91 (93 ∷ []) mark.opening (one_lacks byte 93 [] mark.closing refl)
 numbers_lack byte mark (n ∷ ns) all =
     let small = All-head IsSmall n ns all in

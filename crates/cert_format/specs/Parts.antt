@@ -1,8 +1,10 @@
 -- The parts that the text of a certificate is read and written in.
-use Rattle.std.specs.Prelude.{ℕ, Bool, ◌==◌, not, List, [], ◌∷◌, ◌++◌, count_by, if◌then◌else◌}
+use Rattle.std.specs.Prelude.{◌≡◌, ◌≤◌, ℕ, Bool, ◌==◌, not, List, [], ◌∷◌, ◌++◌, Some, count_by, if◌then◌else◌, IsUtf8}
 use Rattle.std.specs.List.{list_all}
 use Rattle.arc_map.specs.Records.{Record, Records}
 use Rattle.cert_format.specs.Certificate.{Content, further}
+use Rattle.serde_json.specs.Data.{Data}
+use Rattle.serde_json.specs.Read.{read}
 use Rattle.cert_format.specs.declared.chains.Entry.{Entry}
 use Rattle.cert_format.specs.declared.chains.Room.{Room}
 
@@ -22,6 +24,13 @@ lacks byte text = list_all (λ b. not (b == byte)) text
 -- how often the byte stands in the text
 abbrev pub count : ℕ → List ℕ → ℕ
 count byte text = count_by (λ b. b == byte) text
+
+-- the text is that of the value, and it opens one object at most and no more lists than these
+pub record IsTextOf (most : ℕ) (d : Data) (text : List ℕ) : Type 0 where
+  pub utf8 : IsUtf8 text
+  pub reads : read text ≡ Some d
+  pub objects : count 123 text ≤ 1
+  pub lists : count 91 text ≤ most
 
 -- what follows the comma at the front, where one stands there
 abbrev pub behind_comma : List ℕ → List ℕ
