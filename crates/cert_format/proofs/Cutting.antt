@@ -15,13 +15,15 @@ there byte [] rest = refl
 there byte (b ∷ front) rest = there byte front rest
 
 -- where it stands, and nowhere before, is its first place
-pub first_place : (byte : ℕ) (text front rest : List ℕ) (k : ℕ) → lacks byte front ≡ true → text ≡ front ++ byte ∷ rest → ((j : ℕ) → j < k → slice_index text j ≢ byte) → slice_index text k ≡ byte → k ≡ length front
+pub first_place : (byte : ℕ) (text front rest : List ℕ) (k : ℕ) → lacks byte front ≡ true → text ≡ front ++ byte ∷ rest
+    → ((j : ℕ) → j < k → slice_index text j ≢ byte) → slice_index text k ≡ byte → k ≡ length front
 first_place byte text front rest k none is before at =
     let low : ¬ (k < length front) = λ less. other_at byte front (byte ∷ rest) none k less (ap (λ t. slice_index t k) (sym is) ∙ at) in
     let high : ¬ (length front < k) = λ less. before (length front) less (ap (λ t. slice_index t (length front)) is ∙ there byte front rest) in
     omega arith
 
-pub within_text : (byte : ℕ) (text front rest : List ℕ) (k : ℕ) → text ≡ front ++ byte ∷ rest → ((j : ℕ) → j < k → slice_index text j ≢ byte) → length text ≤ k → ⊥
+pub within_text : (byte : ℕ) (text front rest : List ℕ) (k : ℕ) → text ≡ front ++ byte ∷ rest
+    → ((j : ℕ) → j < k → slice_index text j ≢ byte) → length text ≤ k → ⊥
 within_text byte text front rest k is before past =
     let long : length front < length text = omega (arith, ap length is, longer front) in
     before (length front) (omega arith) (ap (λ t. slice_index t (length front)) is ∙ there byte front rest)
@@ -39,7 +41,8 @@ drop_front byte [] rest = refl
 drop_front byte (b ∷ front) rest = drop_front byte front rest
 
 -- the text is cut just behind it
-pub cut_there : (byte : ℕ) (text front rest own others : List ℕ) (end : ℕ) → end ≡ length front + 1 → text ≡ front ++ byte ∷ rest → own ≡ take end text → others ≡ drop end text → (own ≡ front ++ byte ∷ []) × (others ≡ rest)
+pub cut_there : (byte : ℕ) (text front rest own others : List ℕ) (end : ℕ) → end ≡ length front + 1 → text ≡ front ++ byte ∷ rest
+    → own ≡ take end text → others ≡ drop end text → (own ≡ front ++ byte ∷ []) × (others ≡ rest)
 cut_there byte text front rest own others end at is a b =
     let e : end ≡ suc (length front) = omega arith in
     (a ∙ rw (e, is) (take_front byte front rest), b ∙ rw (e, is) (drop_front byte front rest))

@@ -37,15 +37,18 @@ pub bare_opened : (c : Content) → certificate_text (bare c) ≡ front_text c +
 bare_opened c = opened (bare c)
 
 -- the records between the two parts, and the two parts alone
-pub with_records : (c : Content) (front back : List ℕ) → front ≡ front_text c ++ 91 ∷ [] → back ≡ 93 ∷ back_text c → (front ++ joined (map record_text c.entries)) ++ back ≡ certificate_text c
+pub with_records : (c : Content) (front back : List ℕ) → front ≡ front_text c ++ 91 ∷ [] → back ≡ 93 ∷ back_text c
+    → (front ++ joined (map record_text c.entries)) ++ back ≡ certificate_text c
 with_records c front back e f =
     let j = joined (map record_text c.entries) in
     ap₂ (λ (a b : List ℕ). (a ++ j) ++ b) e f
     ∙ append_assoc (front_text c ++ 91 ∷ []) j (93 ∷ back_text c) ∙ append_assoc (front_text c) (91 ∷ []) (j ++ (93 ∷ back_text c))
     ∙ sym (opened c)
 
-pub without_records : (c : Content) (front back : List ℕ) → front ≡ front_text c ++ 91 ∷ [] → back ≡ 93 ∷ back_text c → front ++ back ≡ certificate_text (bare c)
-without_records c front back e f = ap₂ (λ (a b : List ℕ). a ++ b) e f ∙ append_assoc (front_text c) (91 ∷ []) (93 ∷ back_text c) ∙ sym (bare_opened c)
+pub without_records : (c : Content) (front back : List ℕ) → front ≡ front_text c ++ 91 ∷ [] → back ≡ 93 ∷ back_text c
+    → front ++ back ≡ certificate_text (bare c)
+without_records c front back e f = ap₂ (λ (a b : List ℕ). a ++ b) e f ∙ append_assoc (front_text c) (91 ∷ []) (93 ∷ back_text c)
+    ∙ sym (bare_opened c)
 
 -- ---- the bytes that a part lacks
 

@@ -95,7 +95,8 @@ record_is_text r fits =
     record { utf8 = record_is_utf8 r fits; reads = record_reads r fits; objects = omega arith; lists = omega arith }
 
 -- a list behind a word, where it stands
-count_if : (byte most : ℕ) (b : Bool) (front text : List ℕ) → count byte front ≡ 0 → count byte text ≤ most → count byte (if b then front ++ text else []) ≤ most
+count_if : (byte most : ℕ) (b : Bool) (front text : List ℕ) → count byte front ≡ 0 → count byte text ≤ most
+    → count byte (if b then front ++ text else []) ≤ most
 count_if byte most true front text none few = let both = count_both byte front text in omega arith
 count_if byte most false front text none few = omega arith
 

@@ -72,7 +72,8 @@ counted (r ∷ rs) rest =
     let d = count_both 44 (record_text r ++ further (map record_text rs)) rest in
     record { room = omega arith; kept = omega arith; layers = omega arith }
 
-pub starts : (text : List ℕ) (now : Records) (rs : List Record) (rest : List ℕ) → length rs ≤ 2 ^ 20 → All IsRecord rs → text ≡ joined (map record_text rs) ++ 93 ∷ rest
+pub starts : (text : List ℕ) (now : Records) (rs : List Record) (rest : List ℕ) → length rs ≤ 2 ^ 20 → All IsRecord rs
+    → text ≡ joined (map record_text rs) ++ 93 ∷ rest
     → now.entries ≡ [] → now.room ≡ min (count 123 text) (2 ^ 20) → now.kept_room ≡ count 44 text → now.layers_room ≡ count 44 text → AreLeft text now rs rest
 starts text now rs rest few fit is none r k l =
     let enough : Counted text rs = subst (λ t. Counted t rs) (sym is) (counted rs (93 ∷ rest)) in
@@ -81,7 +82,8 @@ starts text now rs rest few fit is none r k l =
     let layers = enough.layers in
     record { more = rs; is = is; fit = fit; all = ap (λ (es : List Record). es ++ rs) none; room = omega arith; kept = omega arith; layers = omega arith }
 
-pub same_left : (left other : List ℕ) (now then : Records) (rs : List Record) (rest : List ℕ) → other ≡ left → then ≡ now → AreLeft left now rs rest → AreLeft other then rs rest
+pub same_left : (left other : List ℕ) (now then : Records) (rs : List Record) (rest : List ℕ) → other ≡ left → then ≡ now
+    → AreLeft left now rs rest → AreLeft other then rs rest
 same_left left other now then rs rest e f l = subst (λ t. AreLeft t then rs rest) (sym e) (subst (λ n. AreLeft left n rs rest) (sym f) l)
 
 -- ---- one after the other
@@ -95,21 +97,25 @@ pub record Next (left : List ℕ) (now : Records) (rs : List Record) (rest : Lis
   pub is : left ≡ record_body item ++ 125 ∷ after
   pub goes : AreLeft (behind_comma after) (pushed now item) rs rest
 
-uncomma : (rs : List Record) (rest : List ℕ) → behind_comma (further (map record_text rs) ++ 93 ∷ rest) ≡ joined (map record_text rs) ++ 93 ∷ rest
+uncomma : (rs : List Record) (rest : List ℕ)
+    → behind_comma (further (map record_text rs) ++ 93 ∷ rest) ≡ joined (map record_text rs) ++ 93 ∷ rest
 uncomma [] rest = refl
 uncomma (r ∷ rs) rest = refl
 
-pub next : (left : List ℕ) (now : Records) (rs : List Record) (rest : List ℕ) → slice_get left 0 ≡ Some 123 → AreLeft left now rs rest → Next left now rs rest
+pub next : (left : List ℕ) (now : Records) (rs : List Record) (rest : List ℕ) → slice_get left 0 ≡ Some 123 → AreLeft left now rs rest
+    → Next left now rs rest
 next left now rs rest begins l = at l.more l.is l.fit l.all l.room l.kept l.layers
   where
-    at : (more : List Record) → left ≡ joined (map record_text more) ++ 93 ∷ rest → All IsRecord more → now.entries ++ more ≡ rs → length more ≤ now.room → kept_sum more ≤ now.kept_room → layers_sum more ≤ now.layers_room → Next left now rs rest
+    at : (more : List Record) → left ≡ joined (map record_text more) ++ 93 ∷ rest → All IsRecord more → now.entries ++ more ≡ rs
+        → length more ≤ now.room → kept_sum more ≤ now.kept_room → layers_sum more ≤ now.layers_room → Next left now rs rest
     at [] is fit all room kept layers = let e : 93 ≡ 123 = Some_inj 93 123 (sym (ap (λ t. slice_get t 0) is) ∙ begins) in absurd (true≢false (ap (λ n. n == 93) e))
     at (r ∷ more) is fit all room kept layers = record {
       item = r;
       fits = All-head IsRecord r more fit;
       room = record { entry = omega arith; kept = omega arith; layers = omega arith };
       after = further (map record_text more) ++ 93 ∷ rest;
-      is = is ∙ append_assoc (record_text r) (further (map record_text more)) (93 ∷ rest) ∙ append_assoc (record_body r) (125 ∷ []) (further (map record_text more) ++ 93 ∷ rest);
+      is = is ∙ append_assoc (record_text r) (further (map record_text more)) (93 ∷ rest)
+          ∙ append_assoc (record_body r) (125 ∷ []) (further (map record_text more) ++ 93 ∷ rest);
       goes = record {
         more = more;
         is = uncomma more rest;
@@ -126,7 +132,8 @@ pub record Ended (left : List ℕ) (now : Records) (rs : List Record) (rest : Li
   pub all : now.entries ≡ rs
   pub is : left ≡ 93 ∷ rest
 
-pub at_end : (left : List ℕ) (now : Records) (rs : List Record) (rest : List ℕ) → ¬ (slice_get left 0 ≡ Some 123) → AreLeft left now rs rest → Ended left now rs rest
+pub at_end : (left : List ℕ) (now : Records) (rs : List Record) (rest : List ℕ) → ¬ (slice_get left 0 ≡ Some 123) → AreLeft left now rs rest
+    → Ended left now rs rest
 at_end left now rs rest ends l = at l.more l.is l.all
   where
     at : (more : List Record) → left ≡ joined (map record_text more) ++ 93 ∷ rest → now.entries ++ more ≡ rs → Ended left now rs rest

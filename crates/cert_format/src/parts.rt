@@ -19,7 +19,8 @@ pub(crate) fn count_of(text: &[u8], byte: u8) -> usize
 fn end_of_first(text: &[u8], byte: u8) -> usize
     ensures within { result ≤ length text.now }
     ensures some { 0 < length text.now → 0 < result }
-    ensures first { (front rest : List ℕ) → lacks byte front ≡ true → text.now ≡ front ++ byte ∷ rest → result ≡ length front + 1 }
+    ensures first { (front rest : List ℕ) → lacks byte front ≡ true →
+        text.now ≡ front ++ byte ∷ rest → result ≡ length front + 1 }
 {
     for k in 0..text.len() {
         if text[k] == byte {
@@ -29,11 +30,12 @@ fn end_of_first(text: &[u8], byte: u8) -> usize
     text.len()
 }
 
-/// The text up to its first such byte and with it, and what follows that; all of it and nothing where there is
-/// none.
+/// The text up to its first such byte and with it, and what follows that; all of it and nothing
+/// where there is none.
 pub(crate) fn cut_behind(text: &[u8], byte: u8) -> (&[u8], &[u8])
     ensures shorter { 0 < length text.now → length result.1.now < length text.now }
-    ensures parts { (front rest : List ℕ) → lacks byte front ≡ true → text.now ≡ front ++ byte ∷ rest →
+    ensures parts { (front rest : List ℕ) → lacks byte front ≡ true →
+        text.now ≡ front ++ byte ∷ rest →
         (result.0.now ≡ front ++ byte ∷ []) × (result.1.now ≡ rest) }
 {
     text.split_at(end_of_first(text, byte))

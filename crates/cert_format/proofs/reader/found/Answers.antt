@@ -17,14 +17,16 @@ pub returns-in-Err-parsed-clause-found : goal.returns-in-Err-parsed-clause-found
 returns-in-Err-parsed-clause-found c = λ w fits is.
     let cut = c.cut_behind.ensures.parts (front_text w) (joined (map record_text w.entries) ++ (93 ∷ back_text w)) (front_lacks w (wide_bound w fits)) (sym is ∙ opened w) in
     let records = c.in-Ok.ensures.taken w.entries (back_text w) fits.limits.few fits.entries cut.1 in
-    let text : c.deref.result.now ≡ certificate_text (bare w) = c.deref.ensures.value ∙ c.in-Ok-together.ensures ∙ without_records w _ _ cut.0 records.1 in
+    let text : c.deref.result.now ≡ certificate_text (bare w) = c.deref.ensures.value ∙ c.in-Ok-together.ensures
+    ∙ without_records w _ _ cut.0 records.1 in
     c.in-Err-parsed.ensures (data_of (bare w)) (subst (IsTextOf 3 (data_of (bare w))) (sym text) (bare_is_text w fits))
 
 pub returns-in-Ok-taken-clause-found : goal.returns-in-Ok-taken-clause-found
 returns-in-Ok-taken-clause-found c = λ w fits is.
     let cut = c.cut_behind.ensures.parts (front_text w) (joined (map record_text w.entries) ++ (93 ∷ back_text w)) (front_lacks w (wide_bound w fits)) (sym is ∙ opened w) in
     let records = c.in-Ok.ensures.taken w.entries (back_text w) fits.limits.few fits.entries cut.1 in
-    let text : c.deref.result.now ≡ certificate_text (bare w) = c.deref.ensures.value ∙ c.in-Ok-together.ensures ∙ without_records w _ _ cut.0 records.1 in
+    let text : c.deref.result.now ≡ certificate_text (bare w) = c.deref.ensures.value ∙ c.in-Ok-together.ensures
+    ∙ without_records w _ _ cut.0 records.1 in
     let value = c.in-Ok-parsed.ensures (data_of (bare w)) (subst (IsTextOf 3 (data_of (bare w))) (sym text) (bare_is_text w fits)) in
     c.in-Ok-taken.ensures.taken w fits value records.0
 
@@ -32,6 +34,7 @@ pub returns-clause-found : goal.returns-clause-found
 returns-clause-found c = λ w fits is.
     let cut = c.cut_behind.ensures.parts (front_text w) (joined (map record_text w.entries) ++ (93 ∷ back_text w)) (front_lacks w (wide_bound w fits)) (sym is ∙ opened w) in
     let records = c.in-Ok.ensures.taken w.entries (back_text w) fits.limits.few fits.entries cut.1 in
-    let text : c.deref.result.now ≡ certificate_text (bare w) = c.deref.ensures.value ∙ c.in-Ok-together.ensures ∙ without_records w _ _ cut.0 records.1 in
+    let text : c.deref.result.now ≡ certificate_text (bare w) = c.deref.ensures.value ∙ c.in-Ok-together.ensures
+    ∙ without_records w _ _ cut.0 records.1 in
     let value = c.in-Ok-parsed.ensures (data_of (bare w)) (subst (IsTextOf 3 (data_of (bare w))) (sym text) (bare_is_text w fits)) in
     c.in-Err-taken.ensures.taken w fits value records.0

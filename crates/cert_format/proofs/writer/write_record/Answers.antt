@@ -9,5 +9,6 @@ pub returns : goal.returns
 returns c =
     let chain = c.args.chain in
     let r : Record = record { arc = chain.arc; «from» = chain.«from»; kept = chain.kept.now; layers = chain.layers.now } in
-    let printed = c.in_ok-text.ensures.text (ap has_float c.in_ok-value.ensures ∙ no_float_record r) ∙ ap compact_text c.in_ok-value.ensures ∙ sym (record_compact r) in
+    let printed = c.in_ok-text.ensures.text (ap has_float c.in_ok-value.ensures ∙ no_float_record r) ∙ ap compact_text c.in_ok-value.ensures
+    ∙ sym (record_compact r) in
     c.in_ok-extend_from_slice.ensures.items ∙ ap (λ t. c.args.out.now.items ++ t) (c.deref.ensures.value ∙ printed)
