@@ -4,6 +4,7 @@ pub mod OtherWords
 pub mod Spelling
 pub mod Writing
 pub mod Grouping
+pub mod JudgedMaps
 pub mod Refusals
 pub mod Certified
 pub mod Checked

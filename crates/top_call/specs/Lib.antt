@@ -8,5 +8,6 @@ pub mod Reading
 pub mod Maps
 pub mod Answers
 pub mod Endings
+pub mod JudgedLaws
 pub mod Laws
 pub mod Headline

@@ -6,6 +6,7 @@ mod checking;
 mod demo;
 mod faces;
 mod forms;
+mod judged_laws;
 mod laws;
 mod loading;
 mod message;
@@ -18,6 +19,7 @@ mod verdict;
 mod words;
 
 pub use forms::{Options, Request};
+pub use judged_laws::{checked_yes_are_right, yes_keeps_faces, yes_keeps_fewest};
 pub use laws::{
     check_answers_yes, faces_answers_alike, outcome_keeps_lines, records_are_judged_yes,
     simplified_checks_yes, simplified_keeps_lines, simplified_reads_back,
