@@ -1,5 +1,5 @@
 -- The first place of a byte in a text.
-use Rattle.std.proofs.Common.{◌≡◌, ◌≢◌, ◌+◌, ◌<◌, ◌≤◌, ◌==◌, ℕ, zero, suc, true, not, List, [], ◌∷◌, ◌++◌, length, take, drop, slice_index, slice_get, take_all, Some, ◌-◌, refl, sym, ap, ◌∙◌, arith}
+use Rattle.std.proofs.Common.{◌≡◌, ◌≢◌, ◌<◌, ◌≤◌, ◌==◌, ℕ, zero, suc, true, not, List, [], ◌∷◌, ◌++◌, length, take, drop, slice_index, slice_get, take_all, Some, ◌-◌, refl, sym, ap, ◌∙◌, arith}
 use Rattle.std.proofs.lemmas.Bool.{and_parts, eq-eqb, ne_eqb, cond-true, cond-false, true≢false}
 use Rattle.json.proofs.Found.{Some_inj}
 use Rattle.cert_format.specs.Parts.{lacks, behind_comma}
@@ -31,21 +31,6 @@ within_text byte text front rest k is before past =
     longer : (xs : List ℕ) → length xs < length (xs ++ byte ∷ rest)
     longer [] = omega arith
     longer (x ∷ xs) = let h = longer xs in omega arith
-
-take_front : (byte : ℕ) (front rest : List ℕ) → take (suc (length front)) (front ++ byte ∷ rest) ≡ front ++ byte ∷ []
-take_front byte [] rest = refl
-take_front byte (b ∷ front) rest = ap (λ l. b ∷ l) (take_front byte front rest)
-
-drop_front : (byte : ℕ) (front rest : List ℕ) → drop (suc (length front)) (front ++ byte ∷ rest) ≡ rest
-drop_front byte [] rest = refl
-drop_front byte (b ∷ front) rest = drop_front byte front rest
-
--- the text is cut just behind it
-pub cut_there : (byte : ℕ) (text front rest own others : List ℕ) (end : ℕ) → end ≡ length front + 1 → text ≡ front ++ byte ∷ rest
-    → own ≡ take end text → others ≡ drop end text → (own ≡ front ++ byte ∷ []) × (others ≡ rest)
-cut_there byte text front rest own others end at is a b =
-    let e : end ≡ suc (length front) = omega arith in
-    (a ∙ rw (e, is) (take_front byte front rest), b ∙ rw (e, is) (drop_front byte front rest))
 
 -- ---- a comma at the front
 
