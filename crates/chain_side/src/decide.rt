@@ -2,9 +2,9 @@
 ghost use Rattle.std.specs.Prelude.{◌≡◌, ◌↔◌};
 ghost use Rattle.chain_side.specs.Sides.{IsMonotoneChain, IsSideOfChain, IsSideOfEdge, IsSideBySign};
 
-use crate::search::{comes_before, edge_at, precedes};
+use crate::search::{comes_before, edge_at};
 use crate::sides::Side;
-use grid_exact::{Frame, Point, area};
+use grid_exact::{Frame, Point, area, precedes};
 
 /// The side of a chain on which p lies. The chain is the list of its vertices, two or more, which run strictly one way in
 /// the order of the frame. An edge is found by halving, so a chain of n vertices takes about log2(n) comparisons.

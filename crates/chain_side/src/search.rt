@@ -1,20 +1,8 @@
 //! The search for the edge of a chain that a point has come to.
 ghost use Rattle.std.specs.Prelude.{◌≡◌, ◌↔◌, ◌+◌, ◌-◌, ◌<◌, ◌≤◌, IsTrue, length};
-ghost use Rattle.grid_exact.specs.Frame.{IsBeforeIn};
 ghost use Rattle.chain_side.specs.Along.{IsAlong, vertex_at};
 
-use grid_exact::{Frame, Point, order};
-use std::cmp::Ordering;
-
-// Whether a comes before b in the order of the frame.
-pub(crate) fn precedes(frame: Frame, a: Point, b: Point) -> bool
-    ensures { IsTrue result ↔ IsBeforeIn frame a b }
-{
-    match order(frame, a, b) {
-        Ordering::Less => true,
-        Ordering::Equal | Ordering::Greater => false,
-    }
-}
+use grid_exact::{Frame, Point, precedes};
 
 /// Whether a comes before b along a chain that rises, or falls, in the order of the frame.
 pub fn comes_before(frame: Frame, rising: bool, a: Point, b: Point) -> bool
