@@ -5,7 +5,7 @@ use Rattle.std.proofs.lemmas.List.Elements.{Contains-get_or}
 use Rattle.grid_exact.specs.Geometry.{Place}
 use Rattle.arc_map.specs.Chains.{Chain, EndsAt, chain_at, chain_places}
 use Rattle.arc_map.specs.Ends.{AreChainsEndingAt}
-use Rattle.cert_checker.specs.IndexedMap.{IsDouble, IsEdgeBetween}
+use Rattle.cert_checker.specs.Indexed.{IsDouble, IsEdgeBetween}
 use Rattle.cert_checker.specs.Open.{Joins}
 
 -- each of these chains is in the map, and ends at the place

@@ -8,7 +8,7 @@ pub mod Boxes
 pub mod Accepting
 pub mod Holding
 pub mod Sound
-pub mod Filtered
+pub mod Walked
 pub mod Opening
 pub mod Thinned
 pub mod Listed

@@ -15,23 +15,24 @@ use Rattle.grid_exact.proofs.WholeLaws.{sums}
 use Rattle.arc_map.specs.Allowed.{IsConsistent}
 use Rattle.arc_map.specs.Allowed.IsConsistent.{SameSide}
 use Rattle.arc_map.specs.Arranged.{nowhere}
-use Rattle.arc_map.specs.Chains.{AreChains, Chain, IsClearIn, chain_at, chain_places}
+use Rattle.arc_map.specs.Chains.{AreChains, Chain, IsClearIn, chain_at, chain_places, no_chain}
 use Rattle.arc_map.specs.Paths.{vertex_at}
 use Rattle.arc_map.specs.Vertices.{Vertex}
-use Rattle.map_index.specs.Items.{AreItemsOf, Owns}
+use Rattle.arc_map.specs.Work.{Work}
+use Rattle.map_index.specs.IndexedMap.{AreItemsIn}
+use Rattle.map_index.specs.Items.{Owns}
+use Rattle.map_index.specs.Listing.{item_of}
 use Rattle.monotone_split.specs.Laws.{EndOfEdge}
 use Rattle.monotone_split.specs.Laws.EndOfEdge.{StartsAt as EdgeStart, EndsAt as EdgeEnd}
 use Rattle.monotone_split.proofs.Doubles.{double_edge_is_chain}
 use Rattle.sweep_index.specs.Box.{is_from_to, is_in_box}
-use Rattle.sweep_index.specs.Items.{Items, found_in, is_found}
 use Rattle.sweep_index.specs.declared.index.Item.{Item}
 use Rattle.sweep_index.specs.declared.index.Owner.{Owner}
 use Rattle.sweep_index.specs.declared.index.Owner.TheVariants.{Town, Chain as OfChain}
-use Rattle.cert_checker.specs.IndexedMap.{HaveEdges, IsDouble, IsOfOther, ItemLets}
+use Rattle.cert_checker.specs.Indexed.{IsDouble, IsOfOther, ItemLets}
 use Rattle.cert_checker.specs.Open.{IsOpenPair, Joins}
 use Rattle.cert_checker.specs.Runs.{IsInBox, place_at, run_end, run_inner}
 use Rattle.cert_checker.proofs.Beyond.{IsOn, Over, Side, ToTheLeft, ToTheRight, Under, beyond_even, beyond_off}
-use Rattle.cert_checker.proofs.Filtered.{all_filtered, at_filtered}
 use Rattle.cert_checker.proofs.Pairs.{edge_by_number, joined_edge}
 use Rattle.cert_checker.proofs.Parts.{RunParts, place_of_vertex, places_count, split_last}
 
@@ -98,17 +99,13 @@ outside_consistent low high first rest p some inside out =
 
 -- ---- items
 
-is_found_from : (live : List Bool) (low high : Place) (n : ℕ) (item : Item) → is_in_box low high item.at ≡ true → get_or live n false ≡ true → is_found live low high (n, item) ≡ true
-is_found_from live low high n item box alive = and_from (is_in_box low high item.at) (get_or live n false) box alive
-
 -- each owner's place does not change sides, where the items in the box do not
-owned_consistent : (chains : List Chain) (points : List Place) (items : Items) (k : ℕ) (low high first : Place) (rest : List Place) → AreItemsOf chains points items → 0 < length rest → All (IsInBox low high) (first ∷ rest) → All (ItemLets k first (run_inner rest) (run_end first rest)) (found_in items low high) → (owner : Owner) (p : Place) → Owns chains points owner p → IsOfOther k owner → IsConsistent first (run_end first rest) (run_inner rest) p
-owned_consistent chains points items k low high first rest are some inside lets owner p owns other = elim (in_or_outside low high p) [
+owned_consistent : (w : Work) (found : List (ℕ × Item)) (k : ℕ) (low high first : Place) (rest : List Place) → AreItemsIn w low high found → 0 < length rest → All (IsInBox low high) (first ∷ rest) → All (ItemLets k first (run_inner rest) (run_end first rest)) found → (owner : Owner) (p : Place) → Owns w.chains w.read.points owner p → IsOfOther k owner → IsConsistent first (run_end first rest) (run_inner rest) p
+owned_consistent w found k low high first rest are some inside lets owner p owns other = elim (in_or_outside low high p) [
   | inr out ↦ outside_consistent low high first rest p some inside out
   | inl box ↦
-      let found = are.all owner p owns in
-      let item : Item = record { at = p; owner = owner } in
-      at_filtered (is_found items.live low high) (ItemLets k first (run_inner rest) (run_end first rest)) items.numbered (found.0, item) lets found.1.0 (is_found_from items.live low high found.0 item box found.1.1) other
+      let there = are.all owner p owns box in
+      All-contains (ItemLets k first (run_inner rest) (run_end first rest)) found (there.0, item_of owner p) lets there.1 other
 ]
 
 -- ---- double edges
@@ -162,14 +159,16 @@ joins_is_double chains points k i j l are clear order within known other joins =
 -- ---- what is open
 
 -- no double, and the items in the box let the run become the segment
-pub open_from_tests : (chains : List Chain) (points : List Place) (items : Items) (k i j : ℕ) (low high first : Place) (rest : List Place) → AreChains chains → IsClearIn chains points k → AreItemsOf chains points items → i < j → j ≤ length (chain_at chains k).rest → RunParts (chain_places (chain_at chains k)) i j first rest → All (IsInBox low high) (first ∷ rest) → ¬ (IsDouble chains k (place_at (chain_places (chain_at chains k)) i) (place_at (chain_places (chain_at chains k)) j)) → All (ItemLets k first (run_inner rest) (run_end first rest)) (found_in items low high) → IsOpenPair chains points k i j
-open_from_tests chains points items k i j low high first rest are clear items_are order within parts inside single lets =
+pub open_from_tests : (w : Work) (found : List (ℕ × Item)) (k i j : ℕ) (low high first : Place) (rest : List Place) → AreChains w.chains → IsClearIn w.chains w.read.points k → AreItemsIn w low high found → i < j → j ≤ length (chain_at w.chains k).rest → RunParts (chain_places (chain_at w.chains k)) i j first rest → All (IsInBox low high) (first ∷ rest) → ¬ (IsDouble w.chains k (place_at (chain_places (chain_at w.chains k)) i) (place_at (chain_places (chain_at w.chains k)) j)) → All (ItemLets k first (run_inner rest) (run_end first rest)) found → IsOpenPair w.chains w.read.points k i j
+open_from_tests w found k i j low high first rest are clear items order within parts inside single lets =
+    let chains = w.chains in
+    let points = w.read.points in
     let ps = chain_places (chain_at chains k) in
     let owned : (owner : Owner) (p : Place) → Owns chains points owner p → IsOfOther k owner → IsConsistent (place_at ps i) (place_at ps j) (between (i + 1) j ps) p = λ owner p owns other.
     subst (λ v. IsConsistent v (place_at ps j) (between (i + 1) j ps) p) parts.start
-    (subst (λ w. IsConsistent first w (between (i + 1) j ps) p) parts.end
+    (subst (λ x. IsConsistent first x (between (i + 1) j ps) p) parts.end
     (subst (λ us. IsConsistent first (run_end first rest) us p) parts.inner
-    (owned_consistent chains points items k low high first rest items_are parts.some inside lets owner p owns other))) in
+    (owned_consistent w found k low high first rest items parts.some inside lets owner p owns other))) in
     record {
       towns = All-weaker (Contains points) (IsConsistent (place_at ps i) (place_at ps j) (between (i + 1) j ps)) (λ p has. owned Town p has tt) points (All-contains_itself points);
       others = λ l known other some. record {
@@ -179,18 +178,17 @@ open_from_tests chains points items k i j low high first rest are clear items_ar
     }
 
 -- and the other way round
-pub tests_from_open : (chains : List Chain) (points : List Place) (items : Items) (k i j : ℕ) (low high first : Place) (rest : List Place) → HaveEdges chains → AreItemsOf chains points items → RunParts (chain_places (chain_at chains k)) i j first rest → IsOpenPair chains points k i j → All (ItemLets k first (run_inner rest) (run_end first rest)) (found_in items low high)
-tests_from_open chains points items k i j low high first rest edges are parts is_open =
-    all_filtered (is_found items.live low high) (ItemLets k first (run_inner rest) (run_end first rest)) items.numbered (λ e has passes other.
-    let alive = (and_parts (is_in_box low high e.1.at) (get_or items.live e.0 false) passes).1 in
+pub tests_from_open : (w : Work) (found : List (ℕ × Item)) (k i j : ℕ) (low high first : Place) (rest : List Place) → All (λ chain. 0 < length chain.rest) w.chains → AreItemsIn w low high found → RunParts (chain_places (chain_at w.chains k)) i j first rest → IsOpenPair w.chains w.read.points k i j → All (ItemLets k first (run_inner rest) (run_end first rest)) found
+tests_from_open w found k i j low high first rest edges items parts is_open =
+    All-weaker (Contains found) (ItemLets k first (run_inner rest) (run_end first rest)) (λ e has other.
     subst (λ v. IsConsistent v (run_end first rest) (run_inner rest) e.1.at) (sym parts.start)
-    (subst (λ w. IsConsistent (place_at (chain_places (chain_at chains k)) i) w (run_inner rest) e.1.at) (sym parts.end)
-    (subst (λ us. IsConsistent (place_at (chain_places (chain_at chains k)) i) (place_at (chain_places (chain_at chains k)) j) us e.1.at) (sym parts.inner)
-    (owned e.1.owner e.1.at (are.only e.0 e.1 (has, alive)) other))))
+    (subst (λ x. IsConsistent (place_at (chain_places (chain_at w.chains k)) i) x (run_inner rest) e.1.at) (sym parts.end)
+    (subst (λ us. IsConsistent (place_at (chain_places (chain_at w.chains k)) i) (place_at (chain_places (chain_at w.chains k)) j) us e.1.at) (sym parts.inner)
+    (owned e.1.owner e.1.at (items.only e.0 e.1 has) other)))) found (All-contains_itself found)
   where
-    owned : (owner : Owner) (p : Place) → Owns chains points owner p → IsOfOther k owner → IsConsistent (place_at (chain_places (chain_at chains k)) i) (place_at (chain_places (chain_at chains k)) j) (between (i + 1) j (chain_places (chain_at chains k))) p
-    owned Town p owns other = All-contains (IsConsistent (place_at (chain_places (chain_at chains k)) i) (place_at (chain_places (chain_at chains k)) j) (between (i + 1) j (chain_places (chain_at chains k)))) points p is_open.towns owns
-    owned (OfChain l) p owns other = All-contains (IsConsistent (place_at (chain_places (chain_at chains k)) i) (place_at (chain_places (chain_at chains k)) j) (between (i + 1) j (chain_places (chain_at chains k)))) (chain_places (chain_at chains l)) p (is_open.others l owns.0 other (edges l owns.0)).vertices owns.1
+    owned : (owner : Owner) (p : Place) → Owns w.chains w.read.points owner p → IsOfOther k owner → IsConsistent (place_at (chain_places (chain_at w.chains k)) i) (place_at (chain_places (chain_at w.chains k)) j) (between (i + 1) j (chain_places (chain_at w.chains k))) p
+    owned Town p owns other = All-contains (IsConsistent (place_at (chain_places (chain_at w.chains k)) i) (place_at (chain_places (chain_at w.chains k)) j) (between (i + 1) j (chain_places (chain_at w.chains k)))) w.read.points p is_open.towns owns
+    owned (OfChain l) p owns other = All-contains (IsConsistent (place_at (chain_places (chain_at w.chains k)) i) (place_at (chain_places (chain_at w.chains k)) j) (between (i + 1) j (chain_places (chain_at w.chains k)))) (chain_places (chain_at w.chains l)) p (is_open.others l owns.0 other (edges l no_chain owns.0)).vertices owns.1
 
 pub double_not_open : (chains : List Chain) (points : List Place) (k i j : ℕ) → IsDouble chains k (place_at (chain_places (chain_at chains k)) i) (place_at (chain_places (chain_at chains k)) j) → IsOpenPair chains points k i j → ⊥
 double_not_open chains points k i j d is_open =

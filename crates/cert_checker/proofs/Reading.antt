@@ -13,19 +13,12 @@ use Rattle.arc_map.specs.Vertices.{places}
 use Rattle.arc_map.specs.Work.{LiesInArc, chain_in, vertex_in}
 use Rattle.arc_map.specs.declared.refs.ChainRef.{ChainRef}
 use Rattle.map_index.specs.MapIndex.{no_ref}
-use Rattle.cert_checker.specs.IndexedMap.{HaveEdges}
 
 pub chain_of_map : (m : Map) (refs : List ChainRef) (k : ℕ) → k < length refs → chain_at (map (chain_in m) refs) k ≡ chain_in m (get_or refs k no_ref)
 chain_of_map m refs k known = get_or-map (chain_in m) refs k no_ref no_chain known
 
 rest_count : (m : Map) (r : ChainRef) → length (chain_in m r).rest ≡ r.to - r.«from»
 rest_count m r = length-map (range_with_len (r.«from» + 1) (r.to - r.«from»)) (vertex_in m r.arc) ∙ length-range_with_len (r.«from» + 1) (r.to - r.«from»)
-
-pub read_edges : (m : Map) (refs : List ChainRef) → All (LiesInArc m) refs → HaveEdges (map (chain_in m) refs)
-read_edges m refs lie k within =
-    let known : k < length refs = omega (arith, within, length-map refs (chain_in m)) in
-    let r = get_or refs k no_ref in
-    subst (λ (c : Chain). 0 < length c.rest) (sym (chain_of_map m refs k known)) (omega (arith, rest_count m r, (lie k no_ref known).edge))
 
 -- a property of all positions of the arcs is one of the vertices of a chain that lies in its arc
 pub read_places : (P : Place → Type 0) (m : Map) (r : ChainRef) → LiesInArc m r → All (All P) m.arcs → All P (chain_places (chain_in m r))

@@ -1,7 +1,7 @@
 pub mod Difference
 pub mod Runs
 pub mod Open
-pub mod IndexedMap
+pub mod Indexed
 pub mod Judged
 pub mod Judging
 pub mod JudgeState

@@ -8,13 +8,14 @@ ghost use Rattle.cert_checker.specs.Runs.{place_at};
 ghost use Rattle.cert_checker.specs.Subject.{FallFirstAt, FallNowhere, IsSubjectOf, edge_count, pairs_of, record_of};
 ghost use Rattle.cert_checker.specs.declared.verdicts.Verdict.TheVariants.{No};
 
-use crate::indexed::IndexedMap;
+use crate::indexed::is_open;
 use crate::near::is_near;
 use crate::verdicts::Reason;
 use arc_map::ChainRecord;
 use chain_side::comes_before;
 use error_cone::Cone;
 use grid_exact::{Bound, Point, Weights};
+use map_index::IndexedMap;
 
 // A chain that is judged: its number, its vertices with their coordinates times the weights, and the bound.
 #[derive(Clone, Copy)]
@@ -28,35 +29,35 @@ pub struct Subject<'a> {
 // Whether the pair of the vertices number `i` and `j` of the chain is allowed. The nearness part comes first, since nearly all pairs
 // fail there; see `is_near` for the culprit.
 fn allows(
-    indexed: &IndexedMap,
+    map: &IndexedMap,
     subject: &Subject<'_>,
     i: usize,
     j: usize,
     culprit: &mut usize,
 ) -> bool
-    requires subject { IsSubjectOf indexed.now subject.now.chain subject.now.weighted.now subject.now.weights }
+    requires subject { IsSubjectOf map.now subject.now.chain subject.now.weighted.now subject.now.weights }
     requires order { i < j }
-    requires within { j ≤ edge_count indexed.now subject.now.chain }
-    ensures { IsTrue result ↔ pairs_of indexed.now subject.now.chain subject.now.weights subject.now.bound i j }
+    requires within { j ≤ edge_count map.now subject.now.chain }
+    ensures { IsTrue result ↔ pairs_of map.now subject.now.chain subject.now.weights subject.now.bound i j }
 {
     if i + 1 == j {
         return true;
     }
-    is_near(subject.weighted, i, j, subject.bound, culprit) && indexed.is_open(subject.chain, i, j)
+    is_near(subject.weighted, i, j, subject.bound, culprit) && is_open(map, subject.chain, i, j)
 }
 
 // The first step of the kept vertices that is not allowed.
-fn first_bad_step(indexed: &IndexedMap, subject: &Subject<'_>, kept: &[u32]) -> Option<(u32, u32)>
-    requires subject { IsSubjectOf indexed.now subject.now.chain subject.now.weighted.now subject.now.weights }
-    requires kept { AreKeptIn (chain_at indexed.now.chains subject.now.chain) kept.now }
+fn first_bad_step(map: &IndexedMap, subject: &Subject<'_>, kept: &[u32]) -> Option<(u32, u32)>
+    requires subject { IsSubjectOf map.now subject.now.chain subject.now.weighted.now subject.now.weights }
+    requires kept { AreKeptIn (chain_at map.now.chains subject.now.chain) kept.now }
     ensures { MatchOption result
-        (AreSteps (pairs_of indexed.now subject.now.chain subject.now.weights subject.now.bound) kept.now)
-        (λ step. IsFirstBadStep (pairs_of indexed.now subject.now.chain subject.now.weights subject.now.bound) kept.now step.0 step.1) }
+        (AreSteps (pairs_of map.now subject.now.chain subject.now.weights subject.now.bound) kept.now)
+        (λ step. IsFirstBadStep (pairs_of map.now subject.now.chain subject.now.weights subject.now.bound) kept.now step.0 step.1) }
 {
     let mut culprit = 0;
     for at in 1..kept.len() {
         let (i, j) = (kept[at - 1], kept[at]);
-        if !allows(indexed, subject, i as usize, j as usize, &mut culprit) {
+        if !allows(map, subject, i as usize, j as usize, &mut culprit) {
             return Some((i, j));
         }
     }
@@ -64,16 +65,16 @@ fn first_bad_step(indexed: &IndexedMap, subject: &Subject<'_>, kept: &[u32]) -> 
 }
 
 // The first pair of the chain's vertices that is allowed though the layers fall by more than 1 over it.
-fn first_fall(indexed: &IndexedMap, subject: &Subject<'_>, layers: &[u32]) -> Option<(u32, u32)>
-    requires subject { IsSubjectOf indexed.now subject.now.chain subject.now.weighted.now subject.now.weights }
-    requires layers { length layers.now ≡ edge_count indexed.now subject.now.chain + 1 }
+fn first_fall(map: &IndexedMap, subject: &Subject<'_>, layers: &[u32]) -> Option<(u32, u32)>
+    requires subject { IsSubjectOf map.now subject.now.chain subject.now.weighted.now subject.now.weights }
+    requires layers { length layers.now ≡ edge_count map.now subject.now.chain + 1 }
     requires short { length layers.now ≤ 1024 }
     ensures { MatchOption result
-        (FallSlowly (pairs_of indexed.now subject.now.chain subject.now.weights subject.now.bound) (edge_count indexed.now subject.now.chain) layers.now)
-        (λ pair. IsFirstFall (pairs_of indexed.now subject.now.chain subject.now.weights subject.now.bound) (edge_count indexed.now subject.now.chain) layers.now pair.0 pair.1) }
+        (FallSlowly (pairs_of map.now subject.now.chain subject.now.weights subject.now.bound) (edge_count map.now subject.now.chain) layers.now)
+        (λ pair. IsFirstFall (pairs_of map.now subject.now.chain subject.now.weights subject.now.bound) (edge_count map.now subject.now.chain) layers.now pair.0 pair.1) }
 {
     for i in 0..layers.len() {
-        if let Some(j) = first_fall_from(indexed, subject, layers, i) {
+        if let Some(j) = first_fall_from(map, subject, layers, i) {
             return Some((i as u32, j as u32));
         }
     }
@@ -82,27 +83,27 @@ fn first_fall(indexed: &IndexedMap, subject: &Subject<'_>, layers: &[u32]) -> Op
 
 // The first vertex whose pair with the vertex number `i` is such a pair.
 fn first_fall_from(
-    indexed: &IndexedMap,
+    map: &IndexedMap,
     subject: &Subject<'_>,
     layers: &[u32],
     i: usize,
 ) -> Option<usize>
-    requires subject { IsSubjectOf indexed.now subject.now.chain subject.now.weighted.now subject.now.weights }
-    requires layers { length layers.now ≡ edge_count indexed.now subject.now.chain + 1 }
+    requires subject { IsSubjectOf map.now subject.now.chain subject.now.weighted.now subject.now.weights }
+    requires layers { length layers.now ≡ edge_count map.now subject.now.chain + 1 }
     requires start { i < length layers.now }
     ensures { MatchOption result
-        (FallNowhere (pairs_of indexed.now subject.now.chain subject.now.weights subject.now.bound) layers.now i (length layers.now))
-        (FallFirstAt (pairs_of indexed.now subject.now.chain subject.now.weights subject.now.bound) layers.now i) }
+        (FallNowhere (pairs_of map.now subject.now.chain subject.now.weights subject.now.bound) layers.now i (length layers.now))
+        (FallFirstAt (pairs_of map.now subject.now.chain subject.now.weights subject.now.bound) layers.now i) }
 {
     let limit = layers[i].saturating_sub(1);
     if limit == 0 {
         return None;
     }
     let mut culprit = 0;
-    let mut cone = cone_from(indexed, subject, i);
+    let mut cone = cone_from(map, subject, i);
     for j in i + 1..layers.len() {
         if layers[j] < limit {
-            if allows(indexed, subject, i, j, &mut culprit) {
+            if allows(map, subject, i, j, &mut culprit) {
                 return Some(j);
             }
             cone.take(subject.weighted[j]);
@@ -115,8 +116,8 @@ fn first_fall_from(
 }
 
 // The cone of the bound from the vertex number `i` of the chain, over the coordinates times the weights.
-fn cone_from(indexed: &IndexedMap, subject: &Subject<'_>, i: usize) -> Cone
-    requires subject { IsSubjectOf indexed.now subject.now.chain subject.now.weighted.now subject.now.weights }
+fn cone_from(map: &IndexedMap, subject: &Subject<'_>, i: usize) -> Cone
+    requires subject { IsSubjectOf map.now subject.now.chain subject.now.weighted.now subject.now.weights }
     requires start { i < length subject.now.weighted.now }
     ensures start { IsConeFrom result (place_at subject.now.weighted.now) (length subject.now.weighted.now) subject.now.bound i }
     ensures lets { LetsNear result (place_at subject.now.weighted.now) (length subject.now.weighted.now) subject.now.bound i (i + 1) }
@@ -124,7 +125,7 @@ fn cone_from(indexed: &IndexedMap, subject: &Subject<'_>, i: usize) -> Cone
     // The weights are above 0, as their readers say, so the weighted places run along as the chain does.
     let _ = (subject.weights.x(), subject.weights.y());
     let places = subject.weighted;
-    let frame = indexed.frame(subject.chain);
+    let frame = map.frame(subject.chain);
     let rising = comes_before(frame, true, places[0], places[places.len() - 1]);
     Cone::start(frame, rising, places[i], subject.bound)
 }
@@ -167,27 +168,27 @@ fn end_well(edges: usize, kept: &[u32], layers: &[u32]) -> bool
 
 // Why the record, which is that of the entry number `entry`, is refused for the chain; None where it is accepted.
 pub fn refusal(
-    indexed: &IndexedMap,
+    map: &IndexedMap,
     subject: &Subject<'_>,
     entry: u32,
     said: &ChainRecord<'_>,
 ) -> Option<Reason>
-    requires subject { IsSubjectOf indexed.now subject.now.chain subject.now.weighted.now subject.now.weights }
+    requires subject { IsSubjectOf map.now subject.now.chain subject.now.weighted.now subject.now.weights }
     ensures { MatchOption result
-        (IsAccepted (pairs_of indexed.now subject.now.chain subject.now.weights subject.now.bound) (chain_at indexed.now.chains subject.now.chain) (record_of said.now))
-        (λ reason. IsFault (pairs_of indexed.now subject.now.chain subject.now.weights subject.now.bound) (chain_at indexed.now.chains subject.now.chain) entry (record_of said.now) (No reason)) }
+        (IsAccepted (pairs_of map.now subject.now.chain subject.now.weights subject.now.bound) (chain_at map.now.chains subject.now.chain) (record_of said.now))
+        (λ reason. IsFault (pairs_of map.now subject.now.chain subject.now.weights subject.now.bound) (chain_at map.now.chains subject.now.chain) entry (record_of said.now) (No reason)) }
 {
-    let edges = indexed.work().chain(subject.chain).len() - 1;
+    let edges = map.chain(subject.chain).len() - 1;
     if !is_kept(said.kept, edges) {
         return Some(Reason::Kept(entry));
     }
-    if let Some((i, j)) = first_bad_step(indexed, subject, said.kept) {
+    if let Some((i, j)) = first_bad_step(map, subject, said.kept) {
         return Some(Reason::Path(entry, i, j));
     }
     if !end_well(edges, said.kept, said.layers) {
         return Some(Reason::Ends(entry));
     }
-    if let Some((i, j)) = first_fall(indexed, subject, said.layers) {
+    if let Some((i, j)) = first_fall(map, subject, said.layers) {
         return Some(Reason::Layers(entry, i, j));
     }
     None

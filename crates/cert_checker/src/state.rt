@@ -17,14 +17,14 @@ ghost use Rattle.cert_checker.specs.Subject.{pairs_of, record_of};
 ghost use Rattle.cert_checker.specs.declared.verdicts.Verdict.TheVariants.{No, Yes};
 
 use crate::entry::{Subject, refusal};
-use crate::indexed::IndexedMap;
 use crate::plain::weigh;
 use crate::prefixes::compare_arcs;
 use crate::verdicts::{Reason, Verdict};
-use arc_map::{ArcList, ArcMap, ChainRecord, ChainRef, NoMemory, RunRecords, WorkMap};
+use arc_map::{ArcList, ArcMap, ChainRecord, ChainRef, NoMemory, RunRecords};
 use arrangement_check::Partly;
 use cert_format::Certificate;
 use grid_exact::{Bound, Point, Weights};
+use map_index::IndexedMap;
 use monotone_split::split;
 use std::alloc::{AllocError, Global};
 use std::marker::Model;
@@ -36,7 +36,7 @@ const MOST_VERTICES: usize = 1024;
 /// one is given.
 #[derive(Drop)]
 pub struct JudgeState {
-    indexed: IndexedMap,
+    map: IndexedMap,
     held: ArcList,
     weighted: Vec<Point>,
     verdict: Option<Verdict>,
@@ -48,7 +48,7 @@ impl Model for JudgeState {
 
     ghost Value = { Judging };
 
-    ghost view = { λ s. record { work = s.indexed; held = s.held; verdict = s.verdict } };
+    ghost view = { λ s. record { work = s.map; held = s.held; verdict = s.verdict } };
 
     ghost invariant = { IsSound };
 }
@@ -60,11 +60,10 @@ impl JudgeState {
     {
         let held = copied(alloc, partly.held())?;
         let chains = split(alloc, partly.map())?;
-        let work = WorkMap::new(alloc, partly.into_map(), chains)?;
-        let indexed = IndexedMap::build(alloc, work)?;
+        let map = IndexedMap::build(alloc, partly.into_map(), chains)?;
         let weighted = Vec::with_capacity(alloc, MOST_VERTICES)?;
         Ok(JudgeState {
-            indexed,
+            map,
             held,
             weighted,
             verdict: None,
@@ -76,7 +75,7 @@ impl JudgeState {
         requires { self.verdict ≡ Some Yes }
         ensures { result ≡ map_now self.work.read self.work.chains }
     {
-        self.indexed.finish()
+        self.map.finish()
     }
 
     // How many chains there are.
@@ -85,7 +84,7 @@ impl JudgeState {
         ensures chains { result ≡ length self.now.work.chains }
         ensures few { result ≤ 2 ^ 20 }
     {
-        self.indexed.work().chain_count()
+        self.map.work().chain_count()
     }
 
     // The place of chain number `k` in the map read.
@@ -93,7 +92,7 @@ impl JudgeState {
         requires { k < length self.now.work.chains }
         ensures { slice_get self.now.work.refs k ≡ Some result }
     {
-        self.indexed.work().chain_ref(k)
+        self.map.work().chain_ref(k)
     }
 
     // Whether the arc of the chain at this place is not held.
@@ -203,17 +202,17 @@ impl JudgeState {
         ensures thinned { IfNone result (self.new ≡ record self.old { work = thinned_work self.old.work k said.now.kept.now }) }
         ensures same { IfSome result (λ _. self.new ≡ self.old) }
     {
-        weigh_all(&mut self.weighted, self.indexed.work().chain(k), weights);
+        weigh_all(&mut self.weighted, self.map.chain(k), weights);
         let subject = Subject {
             chain: k,
             weighted: self.weighted.as_slice(),
             weights,
             bound,
         };
-        match refusal(&self.indexed, &subject, entry, said) {
+        match refusal(&self.map, &subject, entry, said) {
             Some(reason) => Some(reason),
             None => {
-                self.indexed.thin(k, said.kept);
+                self.map.thin(k, said.kept);
                 None
             }
         }

@@ -4,3 +4,4 @@ pub mod AsRead
 pub mod Indexing
 pub mod Stepping
 pub mod Worked
+pub mod InBox

@@ -1,10 +1,11 @@
-//! The feature points and the vertices of a map at work, by where they stand.
+//! A map at work, with its feature points and vertices by where they stand, and its chains by their ends.
 #![tactic(auto)]
 
 mod index;
+mod indexed;
 mod listing;
 
-pub use index::MapIndex;
+pub use indexed::IndexedMap;
 
 #[cfg(test)]
 mod tests;

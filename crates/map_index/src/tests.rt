@@ -4,7 +4,7 @@ ghost use Rattle.arc_map.specs.Chains.{chain_at};
 ghost use Rattle.map_index.specs.MapIndex.{IsAsRead};
 
 use super::*;
-use arc_map::{ArcMap, ChainRef, NoMemory, WorkMap};
+use arc_map::{ArcMap, ChainRef, NoMemory};
 use grid_exact::{Frame, Point};
 use std::alloc::Global;
 use std::test::*;
@@ -22,8 +22,8 @@ fn rises(p: Point, q: Point) -> bool
     p.x() < q.x() && p.y() < q.y()
 }
 
-// The work on a map of two rising chains, from a over b to c and from d to e, and a feature point.
-fn work_on(
+// The index of a map of two rising chains, from a over b to c and from d to e, and a feature point.
+fn two_chains(
     alloc: Global,
     a: Point,
     b: Point,
@@ -31,12 +31,12 @@ fn work_on(
     d: Point,
     e: Point,
     town: Point,
-) -> Result<WorkMap, NoMemory>
+) -> Result<IndexedMap, NoMemory>
     requires across { (a.x <ℤ b.x) × (b.x <ℤ c.x) × (d.x <ℤ e.x) }
     requires up { (a.y <ℤ b.y) × (b.y <ℤ c.y) × (d.y <ℤ e.y) }
-    ensures chains { IfOk result (λ work. length work.chains ≡ 2) }
-    ensures long { IfOk result (λ work. length (chain_at work.chains 0).rest ≡ 2) }
-    ensures read { IfOk result (λ work. (k : ℕ) → k < length work.chains → IsAsRead work k) }
+    ensures chains { IfOk result (λ map. length map.chains ≡ 2) }
+    ensures long { IfOk result (λ map. length (chain_at map.chains 0).rest ≡ 2) }
+    ensures read { IfOk result (λ map. (k : ℕ) → k < length map.chains → IsAsRead map k) }
 {
     let mut arcs = Vec::with_capacity(alloc, 2)?;
     arcs.push_reserved([a, b, c].to_vec(alloc)?);
@@ -56,7 +56,7 @@ fn work_on(
         frame: Frame::Plain,
     };
     let chains = [first, second].to_vec(alloc)?;
-    WorkMap::new(alloc, map, chains)
+    IndexedMap::build(alloc, map, chains)
 }
 
 // The numbers of the items, rising.
@@ -71,10 +71,10 @@ fn numbers(alloc: Global, walk: Walk<'_>) -> Result<Vec<u32>, Fail> {
 }
 
 // A chain over (0, 0), (2, 1) and (4, 2), another from (3, 0) to (5, 3), and the feature point (2, 3).
-fn worked(alloc: Global) -> Result<WorkMap, Fail>
-    ensures chains { IfOk result (λ work. length work.chains ≡ 2) }
-    ensures long { IfOk result (λ work. length (chain_at work.chains 0).rest ≡ 2) }
-    ensures read { IfOk result (λ work. (k : ℕ) → k < length work.chains → IsAsRead work k) }
+fn worked(alloc: Global) -> Result<IndexedMap, Fail>
+    ensures chains { IfOk result (λ map. length map.chains ≡ 2) }
+    ensures long { IfOk result (λ map. length (chain_at map.chains 0).rest ≡ 2) }
+    ensures read { IfOk result (λ map. (k : ℕ) → k < length map.chains → IsAsRead map k) }
 {
     let (a, b, c) = (point(0, 0)?, point(2, 1)?, point(4, 2)?);
     let (d, e) = (point(3, 0)?, point(5, 3)?);
@@ -88,29 +88,27 @@ fn worked(alloc: Global) -> Result<WorkMap, Fail>
     if !rises(d, e) {
         return Err(Fail::from("d, e"));
     }
-    match work_on(alloc, a, b, c, d, e, town) {
-        Ok(work) => Ok(work),
+    match two_chains(alloc, a, b, c, d, e, town) {
+        Ok(map) => Ok(map),
         Err(NoMemory) => Err(Fail::from("memory")),
     }
 }
 
 // The numbers of the items between (2, 0) and (4, 3).
-fn found(alloc: Global, index: &MapIndex) -> Result<Vec<u32>, Fail> {
-    numbers(alloc, index.in_box(point(2, 0)?, point(4, 3)?))
+fn found(alloc: Global, map: &IndexedMap) -> Result<Vec<u32>, Fail> {
+    numbers(alloc, map.in_box(point(2, 0)?, point(4, 3)?))
 }
 
 #[test]
 fn a_vertex_that_is_thinned_away_is_not_found(rt: HostRuntime) -> Result<(), Fail> {
-    let mut work = worked(rt.alloc())?;
-    let Ok(mut index) = MapIndex::build(rt.alloc(), &work) else {
-        return Err(Fail::from("memory"));
-    };
-    assert_eq!(rt; index.item_count(), 6);
-    assert!(rt; index.frame(&work, 0) == Frame::Plain);
-    assert!(rt; found(rt.alloc(), &index)?.as_slice() == [0, 2, 3, 4].as_slice());
-    index.thin(&work, 0, &[0, 2]);
-    work.thin(0, &[0, 2]);
-    assert!(rt; found(rt.alloc(), &index)?.as_slice() == [0, 3, 4].as_slice());
-    assert_eq!(rt; index.item_count(), 6);
+    let mut map = worked(rt.alloc())?;
+    assert_eq!(rt; map.item_count(), 6);
+    assert!(rt; map.frame(0) == Frame::Plain);
+    assert!(rt; map.chains_at(point(3, 0)?) == [1].as_slice());
+    assert!(rt; found(rt.alloc(), &map)?.as_slice() == [0, 2, 3, 4].as_slice());
+    map.thin(0, &[0, 2]);
+    assert!(rt; found(rt.alloc(), &map)?.as_slice() == [0, 3, 4].as_slice());
+    assert_eq!(rt; map.item_count(), 6);
+    assert_eq!(rt; map.work().chain(0).len(), 2);
     Ok(())
 }

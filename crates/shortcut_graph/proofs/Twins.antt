@@ -1,6 +1,5 @@
 -- The search for a twin among the chains with an end at one place.
 use Rattle.std.proofs.Common.{◌≡◌, inl, inr, ℕ, ◌<◌, ◌≤◌, List, [], ◌∷◌, length, get_or, sym, subst, ◌∙◌, arith}
-use Rattle.std.specs.Prelude.{Contains}
 use Rattle.std.proofs.lemmas.List.{get_or_default}
 use Rattle.std.proofs.lemmas.List.Elements.{Contains-get_or}
 use Rattle.grid_exact.specs.Geometry.{Place}
@@ -11,10 +10,8 @@ use Rattle.arc_map.specs.Ends.{AreChainsEndingAt}
 use Rattle.arc_map.specs.Paths.{vertex_at}
 use Rattle.shortcut_graph.specs.Doubles.{AreEndsOf, IsTwin, IsDoubled}
 
-pub listed_within : (chains : List Chain) (p : Place) (numbers named : List ℕ) (at : ℕ) → numbers ≡ named → AreChainsEndingAt chains p named → at < length numbers → get_or numbers at 0 < length chains
-listed_within chains p numbers named at e are lt =
-    let l = get_or numbers at 0 in
-    ((are.all l).0 (subst (λ (ns : List ℕ). Contains ns l) e (Contains-get_or numbers at 0 lt))).0
+pub listed_within : (chains : List Chain) (p : Place) (numbers : List ℕ) (at : ℕ) → AreChainsEndingAt chains p numbers → at < length numbers → get_or numbers at 0 < length chains
+listed_within chains p numbers at are lt = ((are.all (get_or numbers at 0)).0 (Contains-get_or numbers at 0 lt)).0
 
 ends_second : (v : Vertex) (ws : List Vertex) (a b : Place) → v.place ∷ places ws ≡ b ∷ a ∷ [] → (end_of v ws).place ≡ a
 ends_second v [] a b e = absurd (cc)
@@ -34,10 +31,10 @@ pub found : (chains : List Chain) (k l : ℕ) (a b : Place) → AreItsEnds chain
 found chains k l a b ends within twin =
     record { chain = l; within = within; twin = subst (λ (p : Place). IsTwin chains k l p (vertex_at (chain_at chains k) (length (chain_at chains k).rest)).place) ends.first (subst (λ (q : Place). IsTwin chains k l a q) ends.last twin) }
 
-pub none_found : (chains : List Chain) (k count : ℕ) (a b : Place) (numbers named : List ℕ) → AreItsEnds chains k a b → numbers ≡ named → AreChainsEndingAt chains a named → ((n : ℕ) → n < count → ¬ (IsTwin chains k (get_or numbers n 0) a b)) → length numbers ≤ count → ¬ (IsDoubled chains k)
-none_found chains k count a b numbers named ends e are none all double =
+pub none_found : (chains : List Chain) (k count : ℕ) (a b : Place) (numbers : List ℕ) → AreItsEnds chains k a b → AreChainsEndingAt chains a numbers → ((n : ℕ) → n < count → ¬ (IsTwin chains k (get_or numbers n 0) a b)) → length numbers ≤ count → ¬ (IsDoubled chains k)
+none_found chains k count a b numbers ends are none all double =
     let l = double.chain in
     let twin = subst (λ (p : Place). IsTwin chains k l p b) (sym ends.first) (subst (λ (q : Place). IsTwin chains k l (vertex_at (chain_at chains k) 0).place q) (sym ends.last) double.twin) in
-    let at = subst (λ (ns : List ℕ). Contains ns l) (sym e) ((are.all l).1 (double.within, ends_at (chain_at chains l) a b twin.edge)) in
+    let at = (are.all l).1 (double.within, ends_at (chain_at chains l) a b twin.edge) in
     let same : get_or numbers at.0 0 ≡ l = get_or_default numbers at.0 0 l at.1 ∙ at.2 in
     none at.0 (omega (arith, at.1)) (subst (λ (n : ℕ). IsTwin chains k n a b) (sym same) twin)

@@ -9,11 +9,11 @@ ghost use Rattle.side_wedge.specs.Flanks.{IsBeside};
 ghost use Rattle.shortcut_graph.specs.Weighed.{AreWeighed};
 
 use crate::ruler::Ruler;
-use arc_map::WorkMap;
 use chain_side::comes_before;
 use error_cone::Cone;
 use grid_exact::Frame;
 use lane_kernels::point_at;
+use map_index::IndexedMap;
 use side_wedge::Beside;
 
 /// How the weighted vertices of a chain run: they rise in the order of the frame throughout, or fall throughout.
@@ -25,10 +25,10 @@ pub(crate) struct Course {
 
 impl Course {
     /// The course of chain number `k`: `beside` has its frame, and the ruler its coordinates.
-    pub(crate) fn of(work: &WorkMap, k: u32, beside: &Beside, ruler: &Ruler<'_>) -> Course
-        requires chains { AreChains work.now.chains }
-        requires beside { IsBeside work.now.chains work.now.read.points k beside.now }
-        requires weighed { AreWeighed ruler.now.weights (chain_places (chain_at work.now.chains k)) ruler.now.xs.now ruler.now.ys.now }
+    pub(crate) fn of(map: &IndexedMap, k: u32, beside: &Beside, ruler: &Ruler<'_>) -> Course
+        requires chains { AreChains map.now.chains }
+        requires beside { IsBeside map.now.chains map.now.read.points k beside.now }
+        requires weighed { AreWeighed ruler.now.weights (chain_places (chain_at map.now.chains k)) ruler.now.xs.now ruler.now.ys.now }
         ensures { RunsAlong result.frame result.rising (place_at ruler.now.xs.now ruler.now.ys.now) (length ruler.now.xs.now) }
     {
         // The weights are above 0, as their readers say, so the weighted vertices run along as the chain does.

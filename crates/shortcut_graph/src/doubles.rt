@@ -1,22 +1,20 @@
 //! Other chains that are an edge between the ends of a chain.
 ghost use Rattle.std.specs.Prelude.{◌≡◌, ◌↔◌, ◌<◌, IsTrue, length};
 ghost use Rattle.grid_exact.specs.Segments.{SameEnds};
-ghost use Rattle.arc_map.specs.Ends.{IsEndTable};
 ghost use Rattle.shortcut_graph.specs.Doubles.{AreEndsOf, IsDoubled, IsTwin};
 
-use arc_map::{EndTable, WorkMap};
 use grid_exact::Point;
+use map_index::IndexedMap;
 
 // Whether another chain than the chain number `k` is one edge between the ends of that chain.
-pub(crate) fn is_doubled(work: &WorkMap, ends: &EndTable, k: u32) -> bool
-    requires chain { k < length work.now.chains }
-    requires ends { IsEndTable work.now.chains ends.now }
-    ensures { IsTrue result ↔ IsDoubled work.now.chains k }
+pub(crate) fn is_doubled(map: &IndexedMap, k: u32) -> bool
+    requires { k < length map.now.chains }
+    ensures { IsTrue result ↔ IsDoubled map.now.chains k }
 {
-    let chain = work.chain(k);
+    let chain = map.chain(k);
     let (first, last) = (chain[0], chain[chain.len() - 1]);
-    for other in ends.chains_at(first) {
-        if is_twin(work, k, *other, first, last) {
+    for other in map.chains_at(first) {
+        if is_twin(map, k, *other, first, last) {
             return true;
         }
     }
@@ -24,11 +22,11 @@ pub(crate) fn is_doubled(work: &WorkMap, ends: &EndTable, k: u32) -> bool
 }
 
 // Whether the chain number `other` is another than the chain number `k`, and one edge between a and b.
-fn is_twin(work: &WorkMap, k: u32, other: u32, a: Point, b: Point) -> bool
-    requires { other < length work.now.chains }
-    ensures { IsTrue result ↔ IsTwin work.now.chains k other a b }
+fn is_twin(map: &IndexedMap, k: u32, other: u32, a: Point, b: Point) -> bool
+    requires { other < length map.now.chains }
+    ensures { IsTrue result ↔ IsTwin map.now.chains k other a b }
 {
-    other != k && is_edge_between(work.chain(other), a, b)
+    other != k && is_edge_between(map.chain(other), a, b)
 }
 
 // Whether the chain is one edge between a and b.

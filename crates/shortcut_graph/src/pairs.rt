@@ -3,7 +3,6 @@ ghost use Rattle.std.specs.Prelude.{◌≡◌, ◌≢◌, ◌⊎◌, ◌↔◌, 
 ghost use Rattle.lane_kernels.specs.Places.{AreCoordinates, place_at};
 ghost use Rattle.layer_paths.specs.Bits.{has_bit, HasBit};
 ghost use Rattle.arc_map.specs.Chains.{chain_at, chain_places, AreChains, IsClearIn, IsWithinBound};
-ghost use Rattle.arc_map.specs.Ends.{IsEndTable};
 ghost use Rattle.arc_map.specs.Paths.{IsAllowedPair};
 ghost use Rattle.error_cone.specs.Courses.{IsConeFrom, LetsNear};
 ghost use Rattle.side_wedge.specs.Flanks.{IsBeside};
@@ -15,64 +14,61 @@ use crate::corridor::{Corridor, Heading, heading_of};
 use crate::course::{Course, closes};
 use crate::doubles::is_doubled;
 use crate::ruler::{Ruler, is_near};
-use arc_map::{EndTable, WorkMap};
 use error_cone::Cone;
 use layer_paths::Rows;
+use map_index::IndexedMap;
 use side_wedge::Beside;
 
 /// Sets the bit (i, j) for each pair i < j of vertices of chain number `k` where the pair is allowed, and clears it where it is
-/// not. The table lists the ends of the chains, `beside` is what stands beside this chain, and the ruler has its coordinates.
-/// `row` is written over: it has a place for each vertex.
+/// not. `beside` is what stands beside this chain, and the ruler has its coordinates. `row` is written over: it has a place for each
+/// vertex.
 pub fn fill(
     rows: &mut Rows,
-    work: &WorkMap,
-    ends: &EndTable,
+    map: &IndexedMap,
     k: u32,
     beside: &Beside,
     ruler: &Ruler<'_>,
     row: &mut [bool],
 )
-    requires chain { k < length work.now.chains }
-    requires chains { AreChains work.now.chains }
-    requires clear { IsClearIn work.now.chains work.now.read.points k }
-    requires ends { IsEndTable work.now.chains ends.now }
-    requires beside { IsBeside work.now.chains work.now.read.points k beside.now }
-    requires weighed { AreWeighed ruler.now.weights (chain_places (chain_at work.now.chains k)) ruler.now.xs.now ruler.now.ys.now }
-    requires row { length row.old ≡ length (chain_at work.now.chains k).rest + 1 }
-    ensures { (i j : ℕ) → i < j → j ≤ length (chain_at work.now.chains k).rest
-        → (HasBit rows.new i j ↔ IsAllowedPair (IsWithinBound ruler.now.weights.x ruler.now.weights.y ruler.now.bound) work.now.chains work.now.read.points k i j) }
+    requires chain { k < length map.now.chains }
+    requires chains { AreChains map.now.chains }
+    requires clear { IsClearIn map.now.chains map.now.read.points k }
+    requires beside { IsBeside map.now.chains map.now.read.points k beside.now }
+    requires weighed { AreWeighed ruler.now.weights (chain_places (chain_at map.now.chains k)) ruler.now.xs.now ruler.now.ys.now }
+    requires row { length row.old ≡ length (chain_at map.now.chains k).rest + 1 }
+    ensures { (i j : ℕ) → i < j → j ≤ length (chain_at map.now.chains k).rest
+        → (HasBit rows.new i j ↔ IsAllowedPair (IsWithinBound ruler.now.weights.x ruler.now.weights.y ruler.now.bound) map.now.chains map.now.read.points k i j) }
 {
-    let last = work.chain(k).len() - 1;
+    let last = map.chain(k).len() - 1;
     let heading = heading_of(ruler);
-    let course = Course::of(work, k, beside, ruler);
+    let course = Course::of(map, k, beside, ruler);
     for start in 0..last {
-        mark_open(work, ends, k, beside, start, row);
+        mark_open(map, k, beside, start, row);
         let cone = course.cone_past_next(ruler, start);
         set_row(rows, ruler, heading, cone, start, row);
     }
 }
 
-// Writes to each place of `row` past `start` whether nothing but the bound can stand against the pair of `start` and this vertex.
+// Writes to each place of `row` whether this vertex is past `start`, and nothing but the bound can stand against the pair of both.
 fn mark_open(
-    work: &WorkMap,
-    ends: &EndTable,
+    map: &IndexedMap,
     k: u32,
     beside: &Beside,
     start: usize,
     row: &mut [bool],
 )
-    requires chain { k < length work.now.chains }
-    requires chains { AreChains work.now.chains }
-    requires clear { IsClearIn work.now.chains work.now.read.points k }
-    requires ends { IsEndTable work.now.chains ends.now }
-    requires beside { IsBeside work.now.chains work.now.read.points k beside.now }
-    requires start { start < length (chain_at work.now.chains k).rest }
-    requires row { length row.old ≡ length (chain_at work.now.chains k).rest + 1 }
-    ensures { (j : ℕ) → start < j → j < length row.new → (IsTrue (slice_index_or row.new j false) ↔ IsOpenPair work.now.chains work.now.read.points k start j) }
+    requires chain { k < length map.now.chains }
+    requires chains { AreChains map.now.chains }
+    requires clear { IsClearIn map.now.chains map.now.read.points k }
+    requires beside { IsBeside map.now.chains map.now.read.points k beside.now }
+    requires start { start < length (chain_at map.now.chains k).rest }
+    requires row { length row.old ≡ length (chain_at map.now.chains k).rest + 1 }
+    ensures { (j : ℕ) → IsTrue (slice_index_or row.new j false)
+        ↔ ((start < j) × (j < length row.new) × IsOpenPair map.now.chains map.now.read.points k start j) }
 {
-    beside.consistent_from(work, k, start, row);
+    beside.consistent_from(map, k, start, row);
     // An edge between two vertices of a clear chain joins its ends.
-    if start == 0 && is_doubled(work, ends, k) {
+    if start == 0 && is_doubled(map, k) {
         let last = row.len() - 1;
         row[last] = false;
     }

@@ -1,15 +1,14 @@
 //! An arc from (0, 0) over (2, 2) to (4, 0) that is cut short, beside one other edge and a feature point.
 ghost use Rattle.std.specs.Prelude.{◌≢◌, ◌<◌, ℕ, IfOk, length};
 ghost use Rattle.arc_map.specs.Chains.{AreChains, IsClearIn};
-ghost use Rattle.map_index.specs.MapIndex.{IsAsRead};
 ghost use Rattle.shortcut_graph.specs.Weighed.{IsColumn};
 
 use crate::*;
-use arc_map::{ArcMap, EndTable, WorkMap};
+use arc_map::ArcMap;
 use arrangement_check::check;
 use grid_exact::{Bound, Point, Weights};
 use layer_paths::Rows;
-use map_index::MapIndex;
+use map_index::IndexedMap;
 use monotone_split::split;
 use side_wedge::Beside;
 use std::alloc::{AllocError, Global};
@@ -38,11 +37,10 @@ fn map_of(
     Ok(ArcMap::new(arcs, points, Vec::new(alloc), false))
 }
 
-// The map at work, if it is arranged.
-fn work_on(alloc: Global, map: ArcMap) -> Result<WorkMap, Fail>
-    ensures chains { IfOk result (λ work. AreChains work.chains) }
-    ensures clear { IfOk result (λ work. (k : ℕ) → IsClearIn work.chains work.read.points k) }
-    ensures read { IfOk result (λ work. (k : ℕ) → k < length work.chains → IsAsRead work k) }
+// The map with its chains, if it is arranged.
+fn indexed(alloc: Global, map: ArcMap) -> Result<IndexedMap, Fail>
+    ensures chains { IfOk result (λ map. AreChains map.chains) }
+    ensures clear { IfOk result (λ map. (k : ℕ) → IsClearIn map.chains map.read.points k) }
 {
     let Ok(arranged) = check(alloc, map) else {
         return Err(Fail::from("not arranged"));
@@ -51,8 +49,8 @@ fn work_on(alloc: Global, map: ArcMap) -> Result<WorkMap, Fail>
     let Ok(refs) = split(alloc, &map) else {
         return Err(Fail::from("memory"));
     };
-    match WorkMap::new(alloc, map, refs) {
-        Ok(work) => Ok(work),
+    match IndexedMap::build(alloc, map, refs) {
+        Ok(indexed) => Ok(indexed),
         Err(_) => Err(Fail::from("memory")),
     }
 }
@@ -80,30 +78,23 @@ fn up(alloc: Global, places: &[Point]) -> Result<Vec<i64>, AllocError>
 }
 
 // Whether the pair of the first and the third vertex of the second chain is allowed at bound 5.
-fn is_allowed(alloc: Global, work: &WorkMap) -> Result<bool, Fail>
-    requires chain { 1 < length work.now.chains }
-    requires chains { AreChains work.now.chains }
-    requires clear { IsClearIn work.now.chains work.now.read.points 1 }
-    requires read { (k : ℕ) → k < length work.now.chains → IsAsRead work.now k }
+fn is_allowed(alloc: Global, map: &IndexedMap) -> Result<bool, Fail>
+    requires chain { 1 < length map.now.chains }
+    requires chains { AreChains map.now.chains }
+    requires clear { IsClearIn map.now.chains map.now.read.points 1 }
 {
-    let Ok(ends) = EndTable::build(alloc, work) else {
-        return Err(Fail::from("memory"));
-    };
-    let Ok(index) = MapIndex::build(alloc, work) else {
-        return Err(Fail::from("memory"));
-    };
-    let Ok(mut beside) = Beside::with_room(alloc, index.item_count()) else {
+    let Ok(mut beside) = Beside::with_room(alloc, map.item_count()) else {
         return Err(Fail::from("memory"));
     };
     let Ok(mut rows) = Rows::new(alloc) else {
         return Err(Fail::from("memory"));
     };
-    beside.load(work, 1, &index);
+    beside.load(map, 1);
     let Some(weights) = Weights::new(1, 1) else {
         return Err(Fail::from("weights"));
     };
     let bound = Bound::new(5).ok_or("a bound")?;
-    let places = work.chain(1);
+    let places = map.chain(1);
     let xs = across(alloc, places)?;
     let ys = up(alloc, places)?;
     let ruler = Ruler {
@@ -113,7 +104,7 @@ fn is_allowed(alloc: Global, work: &WorkMap) -> Result<bool, Fail>
         weights,
     };
     let mut row = vec![in alloc; false; places.len()]?;
-    fill(&mut rows, work, &ends, 1, &beside, &ruler, &mut row);
+    fill(&mut rows, map, 1, &beside, &ruler, &mut row);
     Ok(rows.get(0, 2))
 }
 
@@ -125,9 +116,9 @@ fn may_be_cut(rt: &impl Abort, alloc: Global, height: i64, town: i64) -> Result<
     assert!(rt; arc.0 != arc.1);
     assert!(rt; arc.1 != arc.2);
     let map = map_of(alloc, edge, arc, point(2, town)?)?;
-    let work = work_on(alloc, map)?;
-    assert_eq!(rt; work.chain_count(), 2);
-    is_allowed(alloc, &work)
+    let map = indexed(alloc, map)?;
+    assert_eq!(rt; map.work().chain_count(), 2);
+    is_allowed(alloc, &map)
 }
 
 #[test]

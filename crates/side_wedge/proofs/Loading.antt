@@ -15,15 +15,15 @@ use Rattle.lane_kernels.specs.declared.side.Hand.{Hand}
 use Rattle.lane_kernels.specs.declared.side.Hand.TheVariants.{Left, Right}
 use Rattle.lane_kernels.specs.Places.{place_at}
 use Rattle.arc_map.specs.Chains.{Chain, chain_at, chain_places}
-use Rattle.sweep_index.specs.Items.{Items}
 use Rattle.sweep_index.specs.declared.index.Owner.{Owner}
 use Rattle.sweep_index.specs.declared.index.Owner.TheVariants.{Town as OfTown, Chain as OfChain}
-use Rattle.map_index.specs.Items.{Owns, AreItemsOf}
+use Rattle.arc_map.specs.Work.{Work}
+use Rattle.map_index.specs.Items.{Owns}
 use Rattle.side_wedge.specs.Obstacles.{IsObstacle}
 use Rattle.side_wedge.specs.Obstacles.IsObstacle.{Town, Vertex}
 use Rattle.side_wedge.specs.Flanks.{Flanks, IsInRow, StandsInRow, IsBesideEdge, IsBeyond, IsBeside, row_of}
 use Rattle.side_wedge.specs.Strays.{RunsAlong, IsOther, IsStartOf, stray}
-use Rattle.side_wedge.specs.Gathered.{AreLiveStrays}
+use Rattle.side_wedge.specs.Gathered.{AreMapStrays}
 use Rattle.side_wedge.specs.declared.strays.Stray.{Stray}
 
 -- ---- rows of strays
@@ -149,14 +149,13 @@ owner_of chains points k p (Vertex l within other has) = record { owner = OfChai
 -- ---- what is laid out
 
 -- the strays of a chain of a map, by their rows
-pub record IsLaidOut (chains : List Chain) (points : List Place) (k : ℕ) (rising : Bool) (items : Items) (strays : List Stray) (b : Flanks) : Type 0 where
-  pub frame : b.frame ≡ (chain_at chains k).frame
-  pub are_items : AreItemsOf chains points items
-  pub runs : RunsAlong (chain_at chains k).frame rising (chain_places (chain_at chains k))
-  pub are_strays : AreLiveStrays (chain_at chains k).frame rising (chain_places (chain_at chains k)) k items strays
-  pub starts : AreStarts strays b.starts (2 * length (chain_at chains k).rest)
+pub record IsLaidOut (w : Work) (k : ℕ) (rising : Bool) (strays : List Stray) (b : Flanks) : Type 0 where
+  pub frame : b.frame ≡ (chain_at w.chains k).frame
+  pub runs : RunsAlong (chain_at w.chains k).frame rising (chain_places (chain_at w.chains k))
+  pub are_strays : AreMapStrays (chain_at w.chains k).frame rising (chain_places (chain_at w.chains k)) k w strays
+  pub starts : AreStarts strays b.starts (2 * length (chain_at w.chains k).rest)
   pub of_strays : AreOfStrays strays b.xs b.ys
-  pub edges : All (λ chain. 0 < length chain.rest) chains
+  pub edges : All (λ chain. 0 < length chain.rest) w.chains
 
 pub length-chain_places : (c : Chain) → length (chain_places c) ≡ length c.rest + 1
 length-chain_places c = omega (arith, length-map c.rest (λ v. v.place))
@@ -166,8 +165,10 @@ record IsItemInRow (chains : List Chain) (points : List Place) (k : ℕ) (rising
   obstacle : IsObstacle chains points k p
   beside : IsBesideEdge (chain_at chains k).frame (chain_places (chain_at chains k)) s hand p
 
-item_in_row : (chains : List Chain) (points : List Place) (k : ℕ) (rising : Bool) (items : Items) (strays : List Stray) (b : Flanks) (s : ℕ) (hand : Hand) (p : Place) → IsLaidOut chains points k rising items strays b → s < length (chain_at chains k).rest → StandsInRow b (row_of s hand) p → IsItemInRow chains points k rising s hand p
-item_in_row chains points k rising items strays b s hand p laid within stands =
+item_in_row : (w : Work) (k : ℕ) (rising : Bool) (strays : List Stray) (b : Flanks) (s : ℕ) (hand : Hand) (p : Place) → IsLaidOut w k rising strays b → s < length (chain_at w.chains k).rest → StandsInRow b (row_of s hand) p → IsItemInRow w.chains w.read.points k rising s hand p
+item_in_row w k rising strays b s hand p laid within stands =
+    let chains = w.chains in
+    let points = w.read.points in
     let frame = (chain_at chains k).frame in
     let chain = chain_places (chain_at chains k) in
     let x = stray_in_row strays b (2 * length (chain_at chains k).rest) (row_of s hand) p laid.starts laid.of_strays (row_within s (length (chain_at chains k).rest) hand within) stands in
@@ -178,30 +179,31 @@ item_in_row chains points k rising items strays b s hand p laid within stands =
     let is = live.is.is in
     let beside : IsBesideEdge frame chain live.is.edge live.is.hand live.item.at = record { spanned = over_spanned frame rising (vertex_at chain e) (vertex_at chain (e + 1)) live.item.at is.over.start is.over.end; aside = is.aside } in
     record {
-      obstacle = subst (IsObstacle chains points k) here (obstacle_of chains points k live.item.owner live.item.at is.other (laid.are_items.only live.number live.item live.live));
+      obstacle = subst (IsObstacle chains points k) here (obstacle_of chains points k live.item.owner live.item.at is.other live.owned);
       beside = subst (IsBesideEdge frame chain s hand) here (subst (λ (h : Hand). IsBesideEdge frame chain s h live.item.at) (sym same.1) (subst (λ (i : ℕ). IsBesideEdge frame chain i live.is.hand live.item.at) (sym same.0) beside));
     }
 
-obstacle_in_row : (chains : List Chain) (points : List Place) (k : ℕ) (rising : Bool) (items : Items) (strays : List Stray) (b : Flanks) (s : ℕ) (hand : Hand) (p : Place) → IsLaidOut chains points k rising items strays b → s < length (chain_at chains k).rest → IsObstacle chains points k p → IsBesideEdge (chain_at chains k).frame (chain_places (chain_at chains k)) s hand p → StandsInRow b (row_of s hand) p ⊎ IsBeyond (chain_places (chain_at chains k)) p
-obstacle_in_row chains points k rising items strays b s hand p laid within obstacle beside =
+obstacle_in_row : (w : Work) (k : ℕ) (rising : Bool) (strays : List Stray) (b : Flanks) (s : ℕ) (hand : Hand) (p : Place) → IsLaidOut w k rising strays b → s < length (chain_at w.chains k).rest → IsObstacle w.chains w.read.points k p → IsBesideEdge (chain_at w.chains k).frame (chain_places (chain_at w.chains k)) s hand p → StandsInRow b (row_of s hand) p ⊎ IsBeyond (chain_places (chain_at w.chains k)) p
+obstacle_in_row w k rising strays b s hand p laid within obstacle beside =
+    let chains = w.chains in
+    let points = w.read.points in
     let frame = (chain_at chains k).frame in
     let chain = chain_places (chain_at chains k) in
     let inside : s + 1 < length chain = omega (arith, within, length-chain_places (chain_at chains k)) in
     let over = spanned_over frame rising (vertex_at chain s) (vertex_at chain (s + 1)) p (laid.runs s (s + 1) (omega arith) inside) beside.spanned in
     let owned = owner_of chains points k p obstacle in
-    let found = laid.are_items.all owned.owner p owned.owns in
-    elim (laid.are_strays.all found.0 (record { at = p; owner = owned.owner }) s hand found.1 laid.runs (record { other = owned.other; over = record { in_chain = inside; start = over.0; end = over.1 }; aside = beside.aside })) [
+    elim (laid.are_strays.all (record { at = p; owner = owned.owner }) s hand owned.owns laid.runs (record { other = owned.other; over = record { in_chain = inside; start = over.0; end = over.1 }; aside = beside.aside })) [
       | inl has ↦ inl (stands_by_stray strays b (2 * length (chain_at chains k).rest) (stray s hand p) laid.starts laid.of_strays (row_within s (length (chain_at chains k).rest) hand within) has)
       | inr beyond ↦ inr beyond
     ]
 
-pub laid_beside : (chains : List Chain) (points : List Place) (k : ℕ) (rising : Bool) (items : Items) (strays : List Stray) (b : Flanks) → IsLaidOut chains points k rising items strays b → IsBeside chains points k b
-laid_beside chains points k rising items strays b laid = record {
+pub laid_beside : (w : Work) (k : ℕ) (rising : Bool) (strays : List Stray) (b : Flanks) → IsLaidOut w k rising strays b → IsBeside w.chains w.read.points k b
+laid_beside w k rising strays b laid = record {
   frame = laid.frame;
   rows = laid.starts.count;
-  obstacles = λ s hand p within stands. (item_in_row chains points k rising items strays b s hand p laid within stands).obstacle;
-  beside = λ s hand p within stands. (item_in_row chains points k rising items strays b s hand p laid within stands).beside;
-  all = λ s hand p within obstacle beside. obstacle_in_row chains points k rising items strays b s hand p laid within obstacle beside;
+  obstacles = λ s hand p within stands. (item_in_row w k rising strays b s hand p laid within stands).obstacle;
+  beside = λ s hand p within stands. (item_in_row w k rising strays b s hand p laid within stands).beside;
+  all = λ s hand p within obstacle beside. obstacle_in_row w k rising strays b s hand p laid within obstacle beside;
   edges = laid.edges;
 }
 
@@ -213,14 +215,13 @@ starts_by strays xs starts rows same count right = record { count = count; right
 pub of_strays_by : (strays us : List Stray) (xs ys : List ℤ) → us ≡ strays → xs ≡ map (λ x. x.at.x) us → ys ≡ map (λ x. x.at.y) us → AreOfStrays strays xs ys
 of_strays_by strays us xs ys same e f = record { across = e ∙ ap (map (λ x. x.at.x)) same; up = f ∙ ap (map (λ x. x.at.y)) same }
 
-pub laid_by : (chains : List Chain) (points : List Place) (k : ℕ) (rising : Bool) (items : Items) (strays : List Stray) (b : Flanks) (chain : List Place) (rows : ℕ) → b.frame ≡ (chain_at chains k).frame → chain ≡ chain_places (chain_at chains k) → rows ≡ 2 * (length chain - 1) → AreItemsOf chains points items → RunsAlong b.frame rising chain → AreLiveStrays b.frame rising chain k items strays → AreStarts strays b.starts rows → AreOfStrays strays b.xs b.ys → All (λ chain. 0 < length chain.rest) chains → IsLaidOut chains points k rising items strays b
-laid_by chains points k rising items strays b chain rows is_frame is_chain is_rows are runs live starts of edges =
-    let count : rows ≡ 2 * length (chain_at chains k).rest = let size = ap length is_chain in omega (arith, size, length-chain_places (chain_at chains k)) in
+pub laid_by : (w : Work) (k : ℕ) (rising : Bool) (strays : List Stray) (b : Flanks) (chain : List Place) (rows : ℕ) → b.frame ≡ (chain_at w.chains k).frame → chain ≡ chain_places (chain_at w.chains k) → rows ≡ 2 * (length chain - 1) → RunsAlong b.frame rising chain → AreMapStrays b.frame rising chain k w strays → AreStarts strays b.starts rows → AreOfStrays strays b.xs b.ys → All (λ chain. 0 < length chain.rest) w.chains → IsLaidOut w k rising strays b
+laid_by w k rising strays b chain rows is_frame is_chain is_rows runs are starts of edges =
+    let count : rows ≡ 2 * length (chain_at w.chains k).rest = let size = ap length is_chain in omega (arith, size, length-chain_places (chain_at w.chains k)) in
     record {
       frame = is_frame;
-      are_items = are;
-      runs = subst (λ (f : Frame). RunsAlong f rising (chain_places (chain_at chains k))) is_frame (subst (λ (ps : List Place). RunsAlong b.frame rising ps) is_chain runs);
-      are_strays = subst (λ (f : Frame). AreLiveStrays f rising (chain_places (chain_at chains k)) k items strays) is_frame (subst (λ (ps : List Place). AreLiveStrays b.frame rising ps k items strays) is_chain live);
+      runs = subst (λ (f : Frame). RunsAlong f rising (chain_places (chain_at w.chains k))) is_frame (subst (λ (ps : List Place). RunsAlong b.frame rising ps) is_chain runs);
+      are_strays = subst (λ (f : Frame). AreMapStrays f rising (chain_places (chain_at w.chains k)) k w strays) is_frame (subst (λ (ps : List Place). AreMapStrays b.frame rising ps k w strays) is_chain are);
       starts = subst (AreStarts strays b.starts) count starts;
       of_strays = of;
       edges = edges;

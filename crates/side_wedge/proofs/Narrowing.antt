@@ -1,7 +1,7 @@
 -- A wedge that takes what stands beside one edge more.
 use Rattle.std.proofs.Common.{◌≡◌, ◌↔◌, inl, inr, ℕ, ◌+◌, ◌-◌, ◌<◌, ◌≤◌, Bool, false, IsTrue, List, length, get_or, set, ℤ, sym, ap, ◌∙◌, subst, arith}
 use Rattle.std.proofs.lemmas.Bool.{cases_lt}
-use Rattle.std.proofs.lemmas.List.{get_or-set_same, get_or-set_other}
+use Rattle.std.proofs.lemmas.List.{get_or_past, get_or-set_same, get_or-set_other}
 use Rattle.std.specs.Prelude.{slice_index}
 use Rattle.grid_exact.specs.Geometry.{Place}
 use Rattle.grid_exact.specs.declared.frame.Frame.{Frame}
@@ -100,3 +100,15 @@ told_more b chain i edge row t within told here j low high =
           let written : get_or (set row (edge + 1) t) (edge + 1) false ≡ t = get_or-set_same row (edge + 1) t false within in
           subst (λ (n : ℕ). IsTrue (get_or (set row (edge + 1) t) n false) ↔ KeepsAll b chain i n) same (subst (λ (u : Bool). IsTrue u ↔ KeepsAll b chain i (edge + 1)) (sym written) here)
     ]
+
+-- ---- the whole row
+
+-- a row that is clear up to i, and tells of each place past it
+pub told_of_each : (P : ℕ → Type 0) (row : List Bool) (i : ℕ) → ((j : ℕ) → j ≤ i → get_or row j false ≡ false) → ((j : ℕ) → i < j → j < length row → IsTrue (get_or row j false) ↔ P j) → (j : ℕ) → IsTrue (get_or row j false) ↔ ((i < j) × (j < length row) × P j)
+told_of_each P row i clear told j = (λ t. elim (cases_lt i j) [
+  | inr early ↦ let no_one = clear j (omega arith) in absurd (cc)
+  | inl past ↦ elim (cases_lt j (length row)) [
+    | inr over ↦ let no_one = get_or_past row j false over in absurd (cc)
+    | inl within ↦ (past, within, (told j past within).0 t)
+  ]
+], λ h. (told j h.0 h.1).1 h.2)

@@ -4,7 +4,7 @@ ghost use Rattle.grid_exact.specs.Geometry.{Place};
 ghost use Rattle.chain_side.specs.Along.{IsAlong, vertex_at};
 ghost use Rattle.lane_kernels.specs.declared.side.Hand.{Hand};
 ghost use Rattle.arc_map.specs.Chains.{chain_at, AreChains, IsClearIn};
-ghost use Rattle.map_index.specs.MapIndex.{IsIndexAt};
+ghost use Rattle.map_index.specs.IndexedMap.{items_in};
 ghost use Rattle.side_wedge.specs.Obstacles.{IsConsistentPair};
 ghost use Rattle.side_wedge.specs.Flanks.{IsBeside, StandsInRow, KeepsSides, row_of};
 ghost use Rattle.side_wedge.specs.Rows.{IsRow, KeepsAll};
@@ -14,10 +14,10 @@ ghost use Rattle.side_wedge.specs.Wedge.{Lets, StartsAt, IsPast};
 use crate::gather::gather;
 use crate::strays::{Stray, rises, write_places, write_starts};
 use crate::wedge::Wedge;
-use arc_map::{NoMemory, WorkMap};
+use arc_map::NoMemory;
 use grid_exact::{Frame, Point};
 use lane_kernels::Hand;
-use map_index::MapIndex;
+use map_index::IndexedMap;
 use std::alloc::Global;
 use std::marker::Model;
 
@@ -64,46 +64,46 @@ impl Beside {
     }
 
     /// Finds what stands beside chain number `k` of the map: feature points and vertices of other chains. It takes no memory.
-    pub fn load(&mut self, work: &WorkMap, k: u32, index: &MapIndex)
-        requires chain { k < length work.now.chains }
-        requires chains { AreChains work.now.chains }
-        requires index { IsIndexAt work.now index.now }
-        requires room { length index.now.items.numbered ≤ self.old.room }
-        ensures beside { IsBeside work.now.chains work.now.read.points k self.new }
+    pub fn load(&mut self, map: &IndexedMap, k: u32)
+        requires chain { k < length map.now.chains }
+        requires chains { AreChains map.now.chains }
+        requires room { items_in map.now ≤ self.old.room }
+        ensures beside { IsBeside map.now.chains map.now.read.points k self.new }
         ensures room { self.new.room ≡ self.old.room }
     {
-        let chain = work.chain(k);
-        let frame = index.frame(work, k);
+        let chain = map.chain(k);
+        let frame = map.frame(k);
         gather(
             &mut self.strays,
             chain,
             frame,
             rises(chain, frame),
             k,
-            index,
+            map,
         );
         write_starts(&mut self.starts, &self.strays, 2 * (chain.len() as u32 - 1));
         write_places(&mut self.xs, &mut self.ys, &self.strays);
         self.frame = frame;
     }
 
-    /// Tells of each vertex number j past the vertex number i of chain number `k`, in place j of the row, whether the pair
-    /// (i, j) is consistent: whether nothing changes sides where the chain from i to j becomes a straight edge. The rest of the
-    /// row may be anything.
-    pub fn consistent_from(&self, work: &WorkMap, k: u32, i: usize, row: &mut [bool])
-        requires chain { k < length work.now.chains }
-        requires chains { AreChains work.now.chains }
-        requires clear { IsClearIn work.now.chains work.now.read.points k }
-        requires beside { IsBeside work.now.chains work.now.read.points k self.now }
-        requires start { i < length (chain_at work.now.chains k).rest }
-        requires row { length row.old ≡ length (chain_at work.now.chains k).rest + 1 }
-        ensures consistent { (j : ℕ) → i < j → j < length row.new → (IsTrue (slice_index_or row.new j false) ↔ IsConsistentPair work.now.chains work.now.read.points k i j) }
+    /// Tells of each vertex number j of chain number `k`, in place j of the row, whether j is past the vertex number i and the pair
+    /// (i, j) is consistent: whether nothing changes sides where the chain from i to j becomes a straight edge.
+    pub fn consistent_from(&self, map: &IndexedMap, k: u32, i: usize, row: &mut [bool])
+        requires chain { k < length map.now.chains }
+        requires chains { AreChains map.now.chains }
+        requires clear { IsClearIn map.now.chains map.now.read.points k }
+        requires beside { IsBeside map.now.chains map.now.read.points k self.now }
+        requires start { i < length (chain_at map.now.chains k).rest }
+        requires row { length row.old ≡ length (chain_at map.now.chains k).rest + 1 }
+        ensures consistent { (j : ℕ) → IsTrue (slice_index_or row.new j false)
+            ↔ ((i < j) × (j < length row.new) × IsConsistentPair map.now.chains map.now.read.points k i j) }
         ensures length { length row.new ≡ length row.old }
     {
+        clear_to(row, i + 1);
         if self.is_empty() {
             allow_from(row, i + 1);
         } else {
-            let chain = work.chain(k);
+            let chain = map.chain(k);
             let frame = self.frame();
             self.write_row(chain, frame, rises(chain, frame), i, row);
         }
@@ -123,7 +123,8 @@ impl Beside {
         self.xs.is_empty()
     }
 
-    // Tells of each vertex number j past the vertex number i whether what stands between them keeps its side.
+    // Tells of each vertex number j past the vertex number i whether what stands between them keeps its side. The places up to i
+    // stay.
     fn write_row(&self, chain: &[Point], frame: Frame, rising: bool, i: usize, row: &mut [bool])
         requires start { i + 1 < length chain.now }
         requires short { length chain.now ≤ 1024 }
@@ -132,6 +133,7 @@ impl Beside {
         requires runs { RunsAlong frame rising chain.now }
         requires past { (s : ℕ) (hand : Hand) (p : Place) → i ≤ s → s + 1 < length chain.now → StandsInRow self.now (row_of s hand) p → IsAlong frame rising (vertex_at chain.now i) p }
         ensures told { (j : ℕ) → i < j → j < length row.new → (IsTrue (slice_index_or row.new j false) ↔ KeepsAll self.now chain.now i j) }
+        ensures before { (j : ℕ) → j ≤ i → slice_index_or row.new j false ≡ slice_index_or row.old j false }
         ensures length { length row.new ≡ length row.old }
     {
         let mut wedge = Wedge::start(frame, chain[i], rising);
@@ -166,10 +168,20 @@ impl Beside {
     }
 }
 
-// Sets the places from the number `from` on.
+// Clears the places before the number `to`.
+fn clear_to(row: &mut [bool], to: usize)
+    requires { to ≤ length row.old }
+    ensures clear { (j : ℕ) → j < to → slice_index_or row.new j false ≡ false }
+    ensures length { length row.new ≡ length row.old }
+{
+    row[..to].fill(false);
+}
+
+// Sets the places from the number `from` on. Those before it stay.
 fn allow_from(row: &mut [bool], from: usize)
     requires { from ≤ length row.old }
     ensures set { (j : ℕ) → from ≤ j → j < length row.new → slice_index_or row.new j false ≡ true }
+    ensures before { (j : ℕ) → j < from → slice_index_or row.new j false ≡ slice_index_or row.old j false }
     ensures length { length row.new ≡ length row.old }
 {
     row[from..].fill(true);

@@ -2,15 +2,16 @@
 ghost use Rattle.std.specs.Prelude.{◌≡◌, ◌+◌, ◌<◌, ◌≤◌, ◌++◌, length, option_to_list, vec_len, vec_capacity};
 ghost use Rattle.std.specs.List.Sorted.{IsNonDecreasingBy};
 ghost use Rattle.sweep_index.specs.Walk.{items_left};
-ghost use Rattle.side_wedge.specs.Gathered.{AreStraysOf, AreLiveStrays};
+ghost use Rattle.map_index.specs.IndexedMap.{items_in};
+ghost use Rattle.side_wedge.specs.Gathered.{AreStraysOf, AreMapStrays};
 
 use crate::boxes::box_round;
 use crate::strays::{Stray, stray_of};
 use grid_exact::{Frame, Point};
-use map_index::MapIndex;
+use map_index::IndexedMap;
 use sweep_index::Walk;
 
-// Leaves in `strays` the live items of other chains than the chain number `k`, and of none, that stand beside edges of the
+// Leaves in `strays` the items of the map, of other chains than the chain number `k`, and of none, that stand beside edges of the
 // chain, but for items beyond the chain, in order of their rows. There is room for all items.
 pub fn gather(
     strays: &mut Vec<Stray>,
@@ -18,18 +19,18 @@ pub fn gather(
     frame: Frame,
     rising: bool,
     k: u32,
-    index: &MapIndex,
+    map: &IndexedMap,
 )
     requires several { 2 ≤ length chain.now }
     requires short { length chain.now ≤ 1024 }
-    requires room { length index.now.items.numbered ≤ vec_capacity strays.old }
-    ensures strays { AreLiveStrays frame rising chain.now k index.now.items strays.new.items }
+    requires room { items_in map.now ≤ vec_capacity strays.old }
+    ensures strays { AreMapStrays frame rising chain.now k map.now strays.new.items }
     ensures sorted { IsNonDecreasingBy (λ x. x.row) strays.new.items }
-    ensures count { vec_len strays.new ≤ length index.now.items.numbered }
+    ensures count { vec_len strays.new ≤ items_in map.now }
     ensures capacity { vec_capacity strays.new ≡ vec_capacity strays.old }
 {
     let (low, high) = box_round(chain);
-    collect(strays, chain, frame, rising, k, index.in_box(low, high));
+    collect(strays, chain, frame, rising, k, map.in_box(low, high));
     strays.sort_unstable_by_key(|stray| stray.row);
 }
 

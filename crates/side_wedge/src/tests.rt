@@ -5,10 +5,10 @@ ghost use Rattle.arc_map.specs.Arcs.{IsMapArrangedBeside};
 ghost use Rattle.side_wedge.specs.Lines.{IsAside};
 
 use super::*;
-use arc_map::{ArcMap, NoMemory, WorkMap};
+use arc_map::{ArcMap, NoMemory};
 use chain_side::{Side, comes_before};
 use grid_exact::{Frame, Point, on_segment};
-use map_index::MapIndex;
+use map_index::IndexedMap;
 use monotone_split::split;
 use std::alloc::{AllocError, Global};
 use std::process::Abort;
@@ -66,20 +66,19 @@ fn bump(alloc: Global, a: Point, b: Point, c: Point, town: Point) -> Result<ArcM
     Ok(ArcMap::new(arcs, points, Vec::new(alloc), false))
 }
 
-// Which vertices past the first of the first chain of an arranged map make a consistent pair with it.
+// Which vertices of the first chain of an arranged map are past the first, and make a consistent pair with it.
 fn first_row(alloc: Global, map: ArcMap) -> Result<Vec<bool>, NoMemory>
     requires { IsMapArrangedBeside [] map }
 {
     let chains = split(alloc, &map)?;
-    let work = WorkMap::new(alloc, map, chains)?;
-    let index = MapIndex::build(alloc, &work)?;
-    let mut beside = Beside::with_room(alloc, index.item_count())?;
-    if work.chain_count() == 0 {
+    let map = IndexedMap::build(alloc, map, chains)?;
+    let mut beside = Beside::with_room(alloc, map.item_count())?;
+    if map.work().chain_count() == 0 {
         return Ok(Vec::new(alloc));
     }
-    let mut row = vec![in alloc; false; work.chain(0).len()]?;
-    beside.load(&work, 0, &index);
-    beside.consistent_from(&work, 0, 0, &mut row);
+    let mut row = vec![in alloc; true; map.chain(0).len()]?;
+    beside.load(&map, 0);
+    beside.consistent_from(&map, 0, 0, &mut row);
     Ok(row)
 }
 
@@ -95,6 +94,7 @@ fn may_be_flat(rt: &impl Abort, alloc: Global, town: Point) -> Result<bool, Fail
         return Err(Fail::from("memory"));
     };
     assert!(rt; row.len() == 3);
+    assert!(rt; !row[0]);
     assert!(rt; row[1]);
     Ok(row[2])
 }

@@ -9,7 +9,7 @@ use Rattle.cert_checker.proofs.entry.allows.Goals as goal
 
 pub returns-then-is_near : goal.returns-then-is_near
 returns-then-is_near c =
-    let w = c.args.indexed.now in
+    let w = c.args.map.now in
     let s = c.args.subject.now in
     let order : c.args.i + 1 < c.args.j = omega (arith, c.if-i-j.false, c.requires.order) in
     let within : c.args.j < length (chain_places (chain_at w.chains s.chain)) = omega (arith, c.requires.within, places_count (chain_at w.chains s.chain)) in
@@ -19,7 +19,7 @@ returns-then-is_near c =
 
 pub returns-else-is_near : goal.returns-else-is_near
 returns-else-is_near c =
-    let w = c.args.indexed.now in
+    let w = c.args.map.now in
     let s = c.args.subject.now in
     let order : c.args.i + 1 < c.args.j = omega (arith, c.if-i-j.false, c.requires.order) in
     let within : c.args.j < length (chain_places (chain_at w.chains s.chain)) = omega (arith, c.requires.within, places_count (chain_at w.chains s.chain)) in

@@ -11,7 +11,7 @@ use Rattle.cert_checker.proofs.entry.cone_from.Goals as goal
 
 pub returns-clause-start : goal.returns-clause-start
 returns-clause-start c =
-    let w = c.args.indexed.now in
+    let w = c.args.map.now in
     let s = c.args.subject.now in
     let ps = s.weighted.now in
     let wide : pos 0 <ℤ s.weights.x = omega (arith, fits, c.x.ensures.value, c.x.ensures.in_range.low) in

@@ -13,7 +13,7 @@ use Rattle.cert_checker.proofs.entry.first_fall_from.Goals.{then-layers-j+else-a
 
 pub returns-then-is_closed : goal.returns-then-is_closed
 returns-then-is_closed c =
-    let w = c.args.indexed.now in
+    let w = c.args.map.now in
     let s = c.args.subject.now in
     let ps = s.weighted.now in
     let old = c.loop-j.cone in
@@ -29,7 +29,7 @@ returns-then-is_closed c =
 
 pub loop-j-preserved : goal.loop-j-preserved
 loop-j-preserved c =
-    let w = c.args.indexed.now in
+    let w = c.args.map.now in
     let s = c.args.subject.now in
     let ps = s.weighted.now in
     let old = c.loop-j.cone in

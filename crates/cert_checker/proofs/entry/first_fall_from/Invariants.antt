@@ -6,7 +6,7 @@ use Rattle.cert_checker.proofs.entry.first_fall_from.Given as goal
 
 abbrev pub invariant-loop-j : goal.invariant-loop-j
 invariant-loop-j l = record {
-  nowhere : FallNowhere (pairs_of l.indexed l.subject.chain l.subject.weights l.subject.bound) l.layers l.i l.j;
+  nowhere : FallNowhere (pairs_of l.map l.subject.chain l.subject.weights l.subject.bound) l.layers l.i l.j;
   cone : IsConeFrom l.cone (place_at l.subject.weighted.now) (length l.subject.weighted.now) l.subject.bound l.i;
   lets : LetsNear l.cone (place_at l.subject.weighted.now) (length l.subject.weighted.now) l.subject.bound l.i l.j;
 }

@@ -9,12 +9,13 @@ use Rattle.shortcut_graph.proofs.Numbers.{length-chain_places}
 use Rattle.shortcut_graph.proofs.AllowedPairs.{allowed_pair}
 use Rattle.side_wedge.proofs.ByEdges.{consistency_by_edges_lem}
 use Rattle.shortcut_graph.proofs.Filling.{filled_more, told}
+use Rattle.shortcut_graph.proofs.Marking.{told_past}
 use Rattle.shortcut_graph.proofs.pairs.fill.Goals as goal
 
 pub loop-start-preserved : goal.loop-start-preserved
 loop-start-preserved c =
-    let chains = c.args.work.now.chains in
-    let points = c.args.work.now.read.points in
+    let chains = c.args.map.now.chains in
+    let points = c.args.map.now.read.points in
     let k = c.args.k in
     let chain = chain_at chains k in
     let xs = c.args.ruler.now.xs.now in
@@ -30,6 +31,6 @@ loop-start-preserved c =
           (λ j sj jm.
           let within : j < length row = omega arith in
           told (HasBit c.set_row.new.rows start j) (j ≡ start + 1) (IsTrue (get_or row j false)) (IsNearRun xs ys bound start j) (IsOpenPair chains points k start j) (IsAllowedPair (IsWithinBound weights.x weights.y bound) chains points k start j)
-          (c.set_row.ensures.row j sj within) (c.mark_open.ensures j sj within)
+          (c.set_row.ensures.row j sj within) (told_past start (IsOpenPair chains points k start) row j c.mark_open.ensures sj within)
           (allowed_pair consistency_by_edges_lem weights bound chains points xs ys k start j c.requires.beside.edges c.requires.weighed sj jm)) c.loop-start.invariant.filled;
     }

@@ -17,7 +17,7 @@ use Rattle.cert_checker.proofs.state.JudgeState.judge_entry.Goals as goal
 pub weigh_all-requires-clause-on_grid : goal.weigh_all-requires-clause-on_grid
 weigh_all-requires-clause-on_grid c =
     let w = c.args.self.now.work in
-    let e = c.work.ensures ∙ ap (λ (s : Judging). s.work) c.self.view_is in
+    let e = ap (λ (s : Judging). s.work) c.self.view_is in
     let places = c.chain.ensures.places ∙ ap (λ (v : Work). chain_places (chain_at v.chains c.args.k)) e ∙ ap chain_places c.requires.read in
     let are = subst (λ (s : Judging). AreChainsIn s.work.read s.work.refs) c.self.view_is c.self.invariant.known.lie in
     All-same (StaysOnGrid c.args.weights) c.chain.result.now (chain_places (chain_read w.read w.refs c.args.k)) places
@@ -30,7 +30,7 @@ refusal-requires c =
         known = subst (λ (s : Judging). c.args.k < length s.work.chains) (sym c.self.view_is) c.requires.chain;
         chains = c.self.invariant.known.chains;
         clear = c.self.invariant.known.arranged c.args.k (λ has. c.requires.free (subst (λ (s : Judging). Contains s.held (chain_at s.work.chains c.args.k).first.arc) c.self.view_is has));
-        weighed = c.as_slice.ensures.value ∙ c.weigh_all.ensures.value ∙ ap (map (weighted c.args.weights.x c.args.weights.y)) (c.chain.ensures.places ∙ ap (λ (v : Work). chain_places (chain_at v.chains c.args.k)) c.work.ensures);
+        weighed = c.as_slice.ensures.value ∙ c.weigh_all.ensures.value ∙ ap (map (weighted c.args.weights.x c.args.weights.y)) c.chain.ensures.places;
       };
     }
 
@@ -40,7 +40,7 @@ invariant_of-self c = record { known = c.self.invariant.known; room = omega (ari
 pub invariant_of-self-in-None : goal.invariant_of-self-in-None
 invariant_of-self-in-None c =
     let held = c.self.inside.held in
-    let w = c.self.inside.indexed in
+    let w = c.self.inside.map in
     record {
       known = subst (IsKnown c.self.inside.held) (sym c.thin.ensures)
           (known_thinned c.args.weights.x c.args.weights.y c.args.bound held w c.args.k (record_of c.args.said.now) c.self.invariant.known

@@ -2,13 +2,15 @@
 use Rattle.std.proofs.Common.{◌∙◌, true, List, length, replicate, ap, subst}
 use Rattle.std.specs.List.{enumerate_from}
 use Rattle.std.specs.List.Sorted.{IsPermutation}
+use Rattle.std.proofs.lemmas.List.FromFn.{length-enumerate_from}
+use Rattle.std.proofs.lemmas.List.Sorted.{length_permutation}
 use Rattle.sweep_index.specs.declared.index.Item.{Item}
 use Rattle.map_index.specs.MapIndex.{Placed}
 use Rattle.map_index.proofs.Indexing.{index_at_first}
 use Rattle.map_index.proofs.index.MapIndex.build.Goals as goal
 
-pub returns : goal.returns
-returns c =
+pub returns-clause-index : goal.returns-clause-index
+returns-clause-index c =
     let index = c.in_ok-index.index in
     let v : Placed = record { items = index; firsts = c.in_ok-items.firsts.items } in
     index_at_first c.args.work.now c.in_ok-items.items.items v record {
@@ -22,3 +24,10 @@ returns c =
       read = c.requires;
       edges = c.in_ok-items.ensures.edges;
     }
+
+pub returns-clause-count : goal.returns-clause-count
+returns-clause-count c =
+    let index = c.in_ok-index.index in
+    let items = c.in_ok-items.items.items in
+    let numbered = subst (λ (xs : List Item). IsPermutation (enumerate_from 0 xs) index.numbered) c.deref.ensures.value c.in_ok-index.ensures.numbered in
+    length_permutation (enumerate_from 0 items) index.numbered numbered ∙ length-enumerate_from 0 items ∙ ap length c.in_ok-items.ensures.items

@@ -16,7 +16,7 @@ use Rattle.shortcut_graph.proofs.course.Course.of.Goals as goal
 pub returns : goal.returns
 returns c =
     let r = c.args.ruler.now in
-    let chain = chain_at c.args.work.now.chains c.args.k in
+    let chain = chain_at c.args.map.now.chains c.args.k in
     let weighed = c.requires.weighed in
     let frame = c.frame-frame.result in
     let rising = c.comes_before.result in

@@ -1,5 +1,5 @@
 -- The wedge takes one edge more, and tells of the vertex at its end.
-use Rattle.std.proofs.Common.{◌≡◌, ◌↔◌, ◌+◌, ◌<◌, IsTrue, length, sym, subst, arith, rules}
+use Rattle.std.proofs.Common.{◌≡◌, ◌∙◌, false, get_or-set_other, ◌↔◌, ◌+◌, ◌<◌, IsTrue, length, sym, subst, arith, rules}
 use Rattle.std.proofs.lemmas.List.{get_or_read}
 use Rattle.grid_exact.specs.Geometry.{Place}
 use Rattle.chain_side.specs.Along.{IsAlong, vertex_at}
@@ -44,6 +44,7 @@ loop-edge-preserved c =
       origin = now;
       lets = lets;
       told = told_more b chain i edge c.loop-edge.row c.lets.result (omega (arith, within, count, size)) h.told (λ t. let_here.0 (test.0 t), λ k. test.1 (let_here.1 k));
+      before = λ j early. get_or-set_other c.loop-edge.row (edge + 1) j c.lets.result false (λ e. absurd (omega arith)) ∙ h.before j early;
       count = search rules;
     }
 

@@ -1,5 +1,5 @@
 -- The wedge has taken the edges so far, and the row tells of the vertices up to the last of them.
-use Rattle.std.proofs.Common.{◌≡◌, ◌≤◌, length}
+use Rattle.std.proofs.Common.{◌≡◌, ◌≤◌, ℕ, false, length, get_or}
 use Rattle.chain_side.specs.Along.{vertex_at}
 use Rattle.side_wedge.specs.Wedge.{StartsAt}
 use Rattle.side_wedge.proofs.Narrowing.{LetsSoFar, ToldSoFar}
@@ -11,5 +11,6 @@ invariant-loop-edge l = record {
   origin : StartsAt l.wedge l.fn.frame l.rising (vertex_at l.chain l.i);
   lets : LetsSoFar l.self l.fn.frame l.rising (vertex_at l.chain l.i) l.i l.edge l.wedge;
   told : ToldSoFar l.self l.chain l.i l.edge l.row;
+  before : (j : ℕ) → j ≤ l.i → get_or l.row j false ≡ get_or l.fn.row j false;
   count : length l.row ≡ length l.fn.row;
 }

@@ -1,24 +1,13 @@
--- A map at work, an index and a table of chain ends, in step with one another; and what the items of the index let become a segment.
+-- What the index of a map tells of a run that may become a segment: the items that let it, and the chains that are one edge between its
+-- ends.
 use Rattle.std.specs.Prelude.{◌≡◌, ◌≢◌, ◌<◌, ℕ, List, length}
 use Rattle.grid_exact.specs.Geometry.{Place}
 use Rattle.arc_map.specs.Allowed.{IsConsistent}
 use Rattle.arc_map.specs.Chains.{Chain, chain_at, chain_places, EndsAt}
-use Rattle.arc_map.specs.Ends.{EndLists, IsEndTable}
-use Rattle.arc_map.specs.Work.{Work}
 use Rattle.sweep_index.specs.declared.index.Item.{Item}
 use Rattle.sweep_index.specs.declared.index.Owner.{Owner}
 use Rattle.sweep_index.specs.declared.index.Owner.TheVariants.{Town, Chain as OfChain}
-use Rattle.map_index.specs.MapIndex.{IsIndexAt, Placed}
 use Rattle.cert_checker.specs.Open.{Joins}
-
--- each chain has an edge
-abbrev pub HaveEdges : List Chain → Type 0
-HaveEdges chains = (k : ℕ) → k < length chains → 0 < length (chain_at chains k).rest
-
-pub record IsInStep (w : Work) (index : Placed) (ends : EndLists) : Type 0 where
-  pub edges : HaveEdges w.chains
-  pub index_right : IsIndexAt w index
-  pub ends_right : IsEndTable w.chains ends
 
 -- it is a feature point, or of another chain than the chain number k
 abbrev pub IsOfOther : ℕ → Owner → Type 0

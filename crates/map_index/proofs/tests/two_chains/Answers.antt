@@ -6,10 +6,10 @@ use Rattle.arc_map.specs.Work.{Work, work_of}
 use Rattle.map_index.specs.MapIndex.{IsAsRead}
 use Rattle.map_index.proofs.AsRead.{all_as_read}
 use Rattle.map_index.proofs.Worked.{IsRising, two_arcs, two_refs, chains_of_map, first_is_long}
-use Rattle.map_index.proofs.tests.work_on.Goals as goal
+use Rattle.map_index.proofs.tests.two_chains.Goals as goal
 
-pub new-requires-2 : goal.new-requires-2
-new-requires-2 c =
+pub build-requires : goal.build-requires
+build-requires c =
     let x = c.in_ok-to_vec.field-0 in
     let y = c.in_ok-to_vec-2.field-0 in
     let long : x.items ≡ c.args.a ∷ c.args.b ∷ c.args.c ∷ [] = search rules in
@@ -27,10 +27,10 @@ returns-clause-long c =
     let m = c.new-map.result in
     let refs = c.in_ok-chains.chains.items in
     let are : refs ≡ two_refs = search rules in
-    IfOk-weaker c.new-2.result (λ (w : Work). w ≡ work_of m refs) (λ (w : Work). length (chain_at w.chains 0).rest ≡ 2) (λ w is. first_is_long m refs w are is) c.new-2.ensures
+    IfOk-weaker c.build.result (λ (w : Work). w ≡ work_of m refs) (λ (w : Work). length (chain_at w.chains 0).rest ≡ 2) (λ w is. first_is_long m refs w are is) c.build.ensures
 
 pub returns-clause-read : goal.returns-clause-read
 returns-clause-read c =
     let m = c.new-map.result in
     let refs = c.in_ok-chains.chains.items in
-    IfOk-weaker c.new-2.result (λ (w : Work). w ≡ work_of m refs) (λ (w : Work). (k : ℕ) → k < length w.chains → IsAsRead w k) (λ w is. all_as_read m refs w is) c.new-2.ensures
+    IfOk-weaker c.build.result (λ (w : Work). w ≡ work_of m refs) (λ (w : Work). (k : ℕ) → k < length w.chains → IsAsRead w k) (λ w is. all_as_read m refs w is) c.build.ensures
