@@ -2,7 +2,7 @@
 //! an end there.
 ghost use Rattle.std.specs.Prelude.{◌≡◌, ◌≢◌, ◌<◌, ◌≤◌, ◌↔◌, All, IsTrue, length};
 ghost use Rattle.sweep_index.specs.Walk.{items_left};
-ghost use Rattle.arc_map.specs.Chains.{chain_at, AreChains, IsClearIn};
+ghost use Rattle.arc_map.specs.Chains.{chain_at, IsClearIn};
 ghost use Rattle.cert_checker.specs.Indexed.{IsDouble, IsOfOther, ItemLets};
 ghost use Rattle.cert_checker.specs.Open.{IsOpenPair, Joins};
 ghost use Rattle.cert_checker.specs.Runs.{run_end, run_inner};
@@ -18,7 +18,6 @@ use sweep_index::{Owner, Walk};
 // `i` and `j` become the segment between the two. Only what stands in the box round the run is looked at.
 pub fn is_open(map: &IndexedMap, k: u32, i: usize, j: usize) -> bool
     requires chain { k < length map.now.chains }
-    requires chains { AreChains map.now.chains }
     requires clear { IsClearIn map.now.chains map.now.read.points k }
     requires order { i < j }
     requires within { j ≤ length (chain_at map.now.chains k).rest }

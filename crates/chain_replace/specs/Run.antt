@@ -10,12 +10,8 @@ use Rattle.arc_map.specs.Paths.{IsAllowedPair}
 use Rattle.arc_map.specs.Records.{Record}
 use Rattle.arc_map.specs.Work.{Work, work_of, AreChainsIn, thinned_work}
 use Rattle.arc_map.specs.declared.refs.ChainRef.{ChainRef}
-
 -- what a run is given besides the map: the arcs that are held, the bound and the weights
-pub record Terms : Type 0 where
-  pub held : List ℕ
-  pub bound : ℤ
-  pub weights : Scales
+pub use Rattle.chain_replace.specs.declared.terms.Terms.{Terms}
 
 -- within the bound, with the weights
 abbrev pub NearBy : Terms → Place → Place → Place → Type 0

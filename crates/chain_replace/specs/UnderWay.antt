@@ -4,15 +4,15 @@ use Rattle.grid_exact.specs.Weights.{StaysOnGrid}
 use Rattle.arc_map.specs.Arcs.{AreKept}
 use Rattle.arc_map.specs.Arranged.{IsMapArranged}
 use Rattle.arc_map.specs.Chains.{AreChains, IsArrangedBeside}
-use Rattle.arc_map.specs.Ends.{IsEndTable}
 use Rattle.arc_map.specs.Work.{work_of, AreChainsIn}
-use Rattle.map_index.specs.MapIndex.{IsAsRead, IsIndexAt}
+use Rattle.map_index.specs.IndexedMap.{items_in}
+use Rattle.map_index.specs.MapIndex.{IsAsRead}
 use Rattle.chain_replace.specs.Run.{Progress, AreReplaced}
 use Rattle.chain_replace.specs.Rooms.{vertices_in}
 use Rattle.chain_replace.specs.declared.run.RunState.TheInside.{Inside}
 
 abbrev pub progress_of : Inside → Progress
-progress_of s = record { work = s.work; terms = record { held = s.held; bound = s.bound; weights = s.weights }; next = s.next; records = s.records.entries }
+progress_of s = record { work = s.map; terms = s.terms; next = s.next; records = s.records.entries }
 
 -- the map read was arranged beside the held arcs and stays on the grid, its chains before the next one are replaced, and those
 -- from the next one on are as read
@@ -29,14 +29,12 @@ pub record IsSound (p : Progress) : Type 0 where
   pub are_chains : AreChains p.work.chains
   pub arranged : IsArrangedBeside p.terms.held p.work.chains p.work.read.points
 
--- the index and the table of ends are those of the map now, and there is room for the records of the chains that are left
+-- there is room for what stands beside a chain, and for the records of the chains that are left
 pub record HasRoom (s : Inside) : Type 0 where
-  pub index : IsIndexAt s.work s.index
-  pub ends : IsEndTable s.work.chains s.ends
-  pub items : length s.index.items.numbered ≤ s.finder.room
-  pub records : length s.work.chains ≤ s.next + s.records.room
-  pub places : vertices_in (drop s.next s.work.chains) ≤ s.records.kept_room
-  pub layers : vertices_in (drop s.next s.work.chains) ≤ s.records.layers_room
+  pub items : items_in s.map ≤ s.finder.room
+  pub records : length s.map.chains ≤ s.next + s.records.room
+  pub places : vertices_in (drop s.next s.map.chains) ≤ s.records.kept_room
+  pub layers : vertices_in (drop s.next s.map.chains) ≤ s.records.layers_room
 
 pub record IsUnderWay (s : Inside) : Type 0 where
   pub sound : IsSound (progress_of s)

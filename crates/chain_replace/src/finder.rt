@@ -2,20 +2,19 @@
 ghost use Rattle.std.specs.Prelude.{◌≡◌, ◌+◌, ◌<◌, ◌≤◌, ◌∷◌, [], ℕ, All, IfOk, length, take};
 ghost use Rattle.grid_exact.specs.Paths.{AreLayers, IsBestPath};
 ghost use Rattle.grid_exact.specs.Weights.{StaysOnGrid};
-ghost use Rattle.arc_map.specs.Chains.{chain_at, chain_places, AreChains, IsClearIn};
-ghost use Rattle.arc_map.specs.Ends.{IsEndTable};
-ghost use Rattle.map_index.specs.MapIndex.{IsIndexAt};
+ghost use Rattle.arc_map.specs.Chains.{chain_at, chain_places, IsClearIn};
+ghost use Rattle.map_index.specs.IndexedMap.{items_in};
 ghost use Rattle.layer_paths.specs.Bits.{HasBit};
 ghost use Rattle.side_wedge.specs.Flanks.{IsBeside};
 ghost use Rattle.shortcut_graph.specs.Weighed.{AreWeighed};
-ghost use Rattle.chain_replace.specs.Run.{IsAllowedHere, last_of};
+ghost use Rattle.chain_replace.specs.Run.{IsAllowedHere, IsAllowedIn, last_of};
 ghost use Rattle.chain_replace.specs.Finder.{AreAlike};
 
+use crate::terms::Terms;
 use crate::weigh::weigh;
-use arc_map::{EndTable, NoMemory, WorkMap};
-use grid_exact::{Bound, Weights};
+use arc_map::NoMemory;
 use layer_paths::{Rows, layers, least_path};
-use map_index::MapIndex;
+use map_index::IndexedMap;
 use shortcut_graph::{Ruler, fill};
 use side_wedge::Beside;
 use std::alloc::Global;
@@ -84,30 +83,19 @@ impl PathFinder {
     }
 
     // Finds the best path of chain number `k` and its layers. It takes no memory.
-    pub fn find(
-        &mut self,
-        work: &WorkMap,
-        index: &MapIndex,
-        ends: &EndTable,
-        k: u32,
-        bound: Bound,
-        weights: Weights,
-    )
-        requires chain { k < length work.now.chains }
-        requires chains { AreChains work.now.chains }
-        requires clear { IsClearIn work.now.chains work.now.read.points k }
-        requires index { IsIndexAt work.now index.now }
-        requires room { length index.now.items.numbered ≤ self.old.room }
-        requires ends { IsEndTable work.now.chains ends.now }
-        requires on_grid { All (StaysOnGrid weights) (chain_places (chain_at work.now.chains k)) }
-        ensures path { IsBestPath (IsAllowedHere bound weights work.now k) (last_of work.now k) self.new.path }
-        ensures layers { AreLayers (IsAllowedHere bound weights work.now k) (last_of work.now k) self.new.layers }
+    pub fn find(&mut self, map: &IndexedMap, k: u32, terms: &Terms)
+        requires chain { k < length map.now.chains }
+        requires clear { IsClearIn map.now.chains map.now.read.points k }
+        requires room { items_in map.now ≤ self.old.room }
+        requires on_grid { All (StaysOnGrid terms.now.weights) (chain_places (chain_at map.now.chains k)) }
+        ensures path { IsBestPath (IsAllowedIn terms.now map.now k) (last_of map.now k) self.new.path }
+        ensures layers { AreLayers (IsAllowedIn terms.now map.now k) (last_of map.now k) self.new.layers }
         ensures room { self.new.room ≡ self.old.room }
     {
-        if work.chain(k).len() == 2 {
+        if map.chain(k).len() == 2 {
             self.keep_edge();
         } else {
-            self.search(work, index, ends, k, bound, weights);
+            self.search(map, k, terms);
         }
     }
 
@@ -126,40 +114,28 @@ impl PathFinder {
     }
 
     // Finds the best path and the layers by the rows of allowed pairs.
-    fn search(
-        &mut self,
-        work: &WorkMap,
-        index: &MapIndex,
-        ends: &EndTable,
-        k: u32,
-        bound: Bound,
-        weights: Weights,
-    )
-        requires chain { k < length work.now.chains }
-        requires chains { AreChains work.now.chains }
-        requires clear { IsClearIn work.now.chains work.now.read.points k }
-        requires index { IsIndexAt work.now index.now }
-        requires room { length index.now.items.numbered ≤ self.old.room }
-        requires ends { IsEndTable work.now.chains ends.now }
-        requires on_grid { All (StaysOnGrid weights) (chain_places (chain_at work.now.chains k)) }
-        ensures path { IsBestPath (IsAllowedHere bound weights work.now k) (last_of work.now k) self.new.path }
-        ensures layers { AreLayers (IsAllowedHere bound weights work.now k) (last_of work.now k) self.new.layers }
+    fn search(&mut self, map: &IndexedMap, k: u32, terms: &Terms)
+        requires chain { k < length map.now.chains }
+        requires clear { IsClearIn map.now.chains map.now.read.points k }
+        requires room { items_in map.now ≤ self.old.room }
+        requires on_grid { All (StaysOnGrid terms.now.weights) (chain_places (chain_at map.now.chains k)) }
+        ensures path { IsBestPath (IsAllowedIn terms.now map.now k) (last_of map.now k) self.new.path }
+        ensures layers { AreLayers (IsAllowedIn terms.now map.now k) (last_of map.now k) self.new.layers }
         ensures room { self.new.room ≡ self.old.room }
     {
-        let places = work.chain(k);
+        let places = map.chain(k);
         let count = places.len();
-        self.beside.load(work, k, index);
-        weigh(weights, places, &mut self.xs, &mut self.ys);
+        self.beside.load(map, k);
+        weigh(terms.weights, places, &mut self.xs, &mut self.ys);
         let ruler = Ruler {
             xs: &self.xs[..count],
             ys: &self.ys[..count],
-            bound,
-            weights,
+            bound: terms.bound,
+            weights: terms.weights,
         };
         fill_rows(
             &mut self.rows,
-            work,
-            ends,
+            map,
             k,
             &self.beside,
             &ruler,
@@ -174,25 +150,22 @@ impl PathFinder {
 // Sets the bits of the pairs of chain number `k` that are allowed, and clears the others. The row is written over.
 fn fill_rows(
     rows: &mut Rows,
-    work: &WorkMap,
-    ends: &EndTable,
+    map: &IndexedMap,
     k: u32,
     beside: &Beside,
     ruler: &Ruler<'_>,
     row: &mut [bool],
 )
-    requires chain { k < length work.now.chains }
-    requires chains { AreChains work.now.chains }
-    requires clear { IsClearIn work.now.chains work.now.read.points k }
-    requires ends { IsEndTable work.now.chains ends.now }
-    requires beside { IsBeside work.now.chains work.now.read.points k beside.now }
-    requires weighed { AreWeighed ruler.now.weights (chain_places (chain_at work.now.chains k)) ruler.now.xs.now ruler.now.ys.now }
-    requires row { last_of work.now k + 1 ≤ length row.old }
-    ensures pairs { AreAlike (HasBit rows.new) (IsAllowedHere ruler.now.bound ruler.now.weights work.now k) (last_of work.now k) }
+    requires chain { k < length map.now.chains }
+    requires clear { IsClearIn map.now.chains map.now.read.points k }
+    requires beside { IsBeside map.now.chains map.now.read.points k beside.now }
+    requires weighed { AreWeighed ruler.now.weights (chain_places (chain_at map.now.chains k)) ruler.now.xs.now ruler.now.ys.now }
+    requires row { last_of map.now k + 1 ≤ length row.old }
+    ensures pairs { AreAlike (HasBit rows.new) (IsAllowedHere ruler.now.bound ruler.now.weights map.now k) (last_of map.now k) }
     ensures length { length row.new ≡ length row.old }
 {
-    let count = work.chain(k).len();
-    fill(rows, work, ends, k, beside, ruler, &mut row[..count]);
+    let count = map.chain(k).len();
+    fill(rows, map, k, beside, ruler, &mut row[..count]);
 }
 
 // Writes the layers of the vertices from 0 to m.

@@ -5,6 +5,7 @@ mod finder;
 mod held;
 mod laws;
 mod run;
+mod terms;
 mod weigh;
 
 pub use laws::{layers_certify_path, outcome_is_one, outcome_keeps_faces, outcome_thins_arcs};

@@ -7,10 +7,11 @@ ghost use Rattle.chain_replace.specs.Rooms.{vertices_in};
 
 use crate::finder::PathFinder;
 use crate::held::copy_of;
-use arc_map::{ArcList, EndTable, NoMemory, RunRecords, WorkMap};
+use crate::terms::Terms;
+use arc_map::{NoMemory, RunRecords, WorkMap};
 use arrangement_check::Partly;
 use grid_exact::{Bound, Weights};
-use map_index::MapIndex;
+use map_index::IndexedMap;
 use monotone_split::split;
 use std::alloc::Global;
 use std::marker::Model;
@@ -19,15 +20,11 @@ use std::marker::Model;
 /// see the map at work, what the run was given, the number of the next chain, and the records so far.
 #[derive(Drop)]
 pub struct RunState {
-    work: WorkMap,
-    held: ArcList,
-    index: MapIndex,
-    ends: EndTable,
+    map: IndexedMap,
+    terms: Terms,
     finder: PathFinder,
     records: RunRecords,
     next: u32,
-    bound: Bound,
-    weights: Weights,
 }
 
 impl Model for RunState {
@@ -68,11 +65,10 @@ impl RunState {
     {
         let held = copy_of(alloc, partly.held())?;
         let chains = split(alloc, partly.map())?;
-        let work = WorkMap::new(alloc, partly.into_map(), chains)?;
-        let index = MapIndex::build(alloc, &work)?;
-        let ends = EndTable::build(alloc, &work)?;
-        let finder = PathFinder::with_room(alloc, index.item_count())?;
-        let vertices = vertex_count(&work);
+        let map = IndexedMap::build(alloc, partly.into_map(), chains)?;
+        let finder = PathFinder::with_room(alloc, map.item_count())?;
+        let work = map.work();
+        let vertices = vertex_count(work);
         let records = RunRecords::with_room(
             alloc,
             work.chain_count() as usize,
@@ -80,15 +76,15 @@ impl RunState {
             vertices,
         )?;
         Ok(RunState {
-            work,
-            held,
-            index,
-            ends,
+            map,
+            terms: Terms {
+                held,
+                bound,
+                weights,
+            },
             finder,
             records,
             next: 0,
-            bound,
-            weights,
         })
     }
 
@@ -103,7 +99,7 @@ impl RunState {
     pub fn chain_count(&self) -> u32
         ensures { result ≡ length self.now.work.chains }
     {
-        self.work.chain_count()
+        self.map.work().chain_count()
     }
 
     /// Replaces the next chain by its best path, and adds its record; a chain of a held arc stays, and has no record. It takes
@@ -114,22 +110,14 @@ impl RunState {
         ensures faces { KeepsFaces self.old.terms.held (map_so_far self.old) (map_so_far self.new) }
     {
         let k = self.next;
-        let place = self.work.chain_ref(k);
-        if self.held.has(place.arc) {
+        let place = self.map.work().chain_ref(k);
+        if self.terms.held.has(place.arc) {
             self.next = k + 1;
             return;
         }
-        self.finder.find(
-            &self.work,
-            &self.index,
-            &self.ends,
-            k,
-            self.bound,
-            self.weights,
-        );
+        self.finder.find(&self.map, k, &self.terms);
         let kept = self.finder.path();
-        self.index.thin(&self.work, k, kept);
-        self.work.thin(k, kept);
+        self.map.thin(k, kept);
         self.records
             .push(place.arc, place.from, kept, self.finder.layers());
         self.next = k + 1;
@@ -143,18 +131,14 @@ impl RunState {
         ensures faces { KeepsFaces self.terms.held self.work.read result.map.map }
     {
         let RunState {
-            work,
-            held,
+            map,
+            terms,
             records,
-            index: _,
-            ends: _,
             finder: _,
             next: _,
-            bound: _,
-            weights: _,
         } = self;
         Outcome {
-            map: Partly::adopt(work.finish(), held),
+            map: Partly::adopt(map.finish(), terms.held),
             records,
         }
     }

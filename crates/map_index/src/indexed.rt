@@ -1,7 +1,7 @@
 //! A map at work with what finds its items by place, and its chains by their ends.
 ghost use Rattle.std.specs.Prelude.{◌≡◌, ◌≢◌, ◌<◌, ◌≤◌, All, AllPairs, IfOk, length};
 ghost use Rattle.arc_map.specs.Arcs.{map_now};
-ghost use Rattle.arc_map.specs.Chains.{chain_at, chain_places};
+ghost use Rattle.arc_map.specs.Chains.{chain_at, chain_places, AreChains};
 ghost use Rattle.arc_map.specs.Ends.{AreChainsEndingAt};
 ghost use Rattle.arc_map.specs.Work.{AreChainsIn, AreKeptIn, thinned_work, work_of};
 ghost use Rattle.sweep_index.specs.Walk.{items_left};
@@ -54,14 +54,15 @@ impl IndexedMap {
         &self.work
     }
 
-    /// The vertices of chain number `k` as they are now.
+    /// The positions of the vertices of chain number `k` as it is now, in grid units, from its first to its last.
     pub fn chain(&self, k: u32) -> &[Point]
         requires { k < length self.now.chains }
         ensures places { result.now ≡ chain_places (chain_at self.now.chains k) }
         ensures several { 2 ≤ length result.now }
         ensures short { length result.now ≤ 1024 }
         ensures distinct { AllPairs (λ p q. p ≢ q) result.now }
-        // Each chain of the map has an edge.
+        // The chains are chains of a map, and each has an edge.
+        ensures chains { AreChains self.now.chains }
         ensures edges { All (λ chain. 0 < length chain.rest) self.now.chains }
     {
         self.work.chain(k)

@@ -2,10 +2,9 @@
 ghost use Rattle.std.specs.Prelude.{◌≡◌, ◌+◌, ◌<◌, ℕ, IsTrue, length};
 ghost use Rattle.grid_exact.specs.Geometry.{Place};
 ghost use Rattle.lane_kernels.specs.Places.{AreCoordinates, place_at};
-ghost use Rattle.arc_map.specs.Chains.{chain_at, chain_places, AreChains};
+ghost use Rattle.arc_map.specs.Chains.{chain_at, chain_places};
 ghost use Rattle.error_cone.specs.Cone.{IsPast, Lets};
 ghost use Rattle.error_cone.specs.Courses.{IsConeFrom, LetsNear, RunsAlong};
-ghost use Rattle.side_wedge.specs.Flanks.{IsBeside};
 ghost use Rattle.shortcut_graph.specs.Weighed.{AreWeighed};
 
 use crate::ruler::Ruler;
@@ -14,7 +13,6 @@ use error_cone::Cone;
 use grid_exact::Frame;
 use lane_kernels::point_at;
 use map_index::IndexedMap;
-use side_wedge::Beside;
 
 /// How the weighted vertices of a chain run: they rise in the order of the frame throughout, or fall throughout.
 #[derive(Clone, Copy)]
@@ -24,18 +22,17 @@ pub(crate) struct Course {
 }
 
 impl Course {
-    /// The course of chain number `k`: `beside` has its frame, and the ruler its coordinates.
-    pub(crate) fn of(map: &IndexedMap, k: u32, beside: &Beside, ruler: &Ruler<'_>) -> Course
-        requires chains { AreChains map.now.chains }
-        requires beside { IsBeside map.now.chains map.now.read.points k beside.now }
+    /// The course of chain number `k`, of which the ruler has the coordinates.
+    pub(crate) fn of(map: &IndexedMap, k: u32, ruler: &Ruler<'_>) -> Course
+        requires chain { k < length map.now.chains }
         requires weighed { AreWeighed ruler.now.weights (chain_places (chain_at map.now.chains k)) ruler.now.xs.now ruler.now.ys.now }
         ensures { RunsAlong result.frame result.rising (place_at ruler.now.xs.now ruler.now.ys.now) (length ruler.now.xs.now) }
     {
         // The weights are above 0, as their readers say, so the weighted vertices run along as the chain does.
         let _ = (ruler.weights.x(), ruler.weights.y());
-        let frame = beside.frame();
+        let frame = map.frame(k);
         let first = point_at(ruler.xs, ruler.ys, 0);
-        let last = point_at(ruler.xs, ruler.ys, ruler.xs.len() - 1);
+        let last = point_at(ruler.xs, ruler.ys, map.chain(k).len() - 1);
         Course {
             frame,
             rising: comes_before(frame, true, first, last),

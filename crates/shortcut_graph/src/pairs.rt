@@ -2,7 +2,7 @@
 ghost use Rattle.std.specs.Prelude.{◌≡◌, ◌≢◌, ◌⊎◌, ◌↔◌, ◌+◌, ◌<◌, ◌≤◌, ℕ, IsTrue, false, length, slice_index_or};
 ghost use Rattle.lane_kernels.specs.Places.{AreCoordinates, place_at};
 ghost use Rattle.layer_paths.specs.Bits.{has_bit, HasBit};
-ghost use Rattle.arc_map.specs.Chains.{chain_at, chain_places, AreChains, IsClearIn, IsWithinBound};
+ghost use Rattle.arc_map.specs.Chains.{chain_at, chain_places, IsClearIn, IsWithinBound};
 ghost use Rattle.arc_map.specs.Paths.{IsAllowedPair};
 ghost use Rattle.error_cone.specs.Courses.{IsConeFrom, LetsNear};
 ghost use Rattle.side_wedge.specs.Flanks.{IsBeside};
@@ -31,7 +31,6 @@ pub fn fill(
     row: &mut [bool],
 )
     requires chain { k < length map.now.chains }
-    requires chains { AreChains map.now.chains }
     requires clear { IsClearIn map.now.chains map.now.read.points k }
     requires beside { IsBeside map.now.chains map.now.read.points k beside.now }
     requires weighed { AreWeighed ruler.now.weights (chain_places (chain_at map.now.chains k)) ruler.now.xs.now ruler.now.ys.now }
@@ -41,7 +40,7 @@ pub fn fill(
 {
     let last = map.chain(k).len() - 1;
     let heading = heading_of(ruler);
-    let course = Course::of(map, k, beside, ruler);
+    let course = Course::of(map, k, ruler);
     for start in 0..last {
         mark_open(map, k, beside, start, row);
         let cone = course.cone_past_next(ruler, start);
@@ -58,7 +57,6 @@ fn mark_open(
     row: &mut [bool],
 )
     requires chain { k < length map.now.chains }
-    requires chains { AreChains map.now.chains }
     requires clear { IsClearIn map.now.chains map.now.read.points k }
     requires beside { IsBeside map.now.chains map.now.read.points k beside.now }
     requires start { start < length (chain_at map.now.chains k).rest }
@@ -66,10 +64,10 @@ fn mark_open(
     ensures { (j : ℕ) → IsTrue (slice_index_or row.new j false)
         ↔ ((start < j) × (j < length row.new) × IsOpenPair map.now.chains map.now.read.points k start j) }
 {
+    let last = map.chain(k).len() - 1;
     beside.consistent_from(map, k, start, row);
     // An edge between two vertices of a clear chain joins its ends.
     if start == 0 && is_doubled(map, k) {
-        let last = row.len() - 1;
         row[last] = false;
     }
 }

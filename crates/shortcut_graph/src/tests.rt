@@ -1,6 +1,6 @@
 //! An arc from (0, 0) over (2, 2) to (4, 0) that is cut short, beside one other edge and a feature point.
 ghost use Rattle.std.specs.Prelude.{◌≢◌, ◌<◌, ℕ, IfOk, length};
-ghost use Rattle.arc_map.specs.Chains.{AreChains, IsClearIn};
+ghost use Rattle.arc_map.specs.Chains.{IsClearIn};
 ghost use Rattle.shortcut_graph.specs.Weighed.{IsColumn};
 
 use crate::*;
@@ -39,8 +39,7 @@ fn map_of(
 
 // The map with its chains, if it is arranged.
 fn indexed(alloc: Global, map: ArcMap) -> Result<IndexedMap, Fail>
-    ensures chains { IfOk result (λ map. AreChains map.chains) }
-    ensures clear { IfOk result (λ map. (k : ℕ) → IsClearIn map.chains map.read.points k) }
+    ensures { IfOk result (λ map. (k : ℕ) → IsClearIn map.chains map.read.points k) }
 {
     let Ok(arranged) = check(alloc, map) else {
         return Err(Fail::from("not arranged"));
@@ -80,7 +79,6 @@ fn up(alloc: Global, places: &[Point]) -> Result<Vec<i64>, AllocError>
 // Whether the pair of the first and the third vertex of the second chain is allowed at bound 5.
 fn is_allowed(alloc: Global, map: &IndexedMap) -> Result<bool, Fail>
     requires chain { 1 < length map.now.chains }
-    requires chains { AreChains map.now.chains }
     requires clear { IsClearIn map.now.chains map.now.read.points 1 }
 {
     let Ok(mut beside) = Beside::with_room(alloc, map.item_count()) else {

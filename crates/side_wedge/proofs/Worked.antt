@@ -8,16 +8,13 @@ use Rattle.grid_exact.specs.declared.frame.Frame.TheVariants.{Plain}
 use Rattle.arc_map.specs.Map.{Map}
 use Rattle.arc_map.specs.Edges.{EdgesAreArranged}
 use Rattle.arc_map.specs.Arcs.{vertex, edges_of_arcs, IsMapArrangedBeside}
-use Rattle.arc_map.specs.Chains.{AreChains, IsClearIn}
+use Rattle.arc_map.specs.Chains.{IsClearIn}
 use Rattle.arc_map.specs.Work.{Work, chain_in, work_of, AreChainsIn}
 use Rattle.arc_map.specs.declared.refs.ChainRef.{ChainRef}
 use Rattle.monotone_split.proofs.Paths.{own_lawful}
 use Rattle.monotone_split.proofs.Cuts.{chains_cut_map}
 
 -- ---- the chains of a map
-
-pub chains_of : (m : Map) (refs : List ChainRef) (w : Work) → AreChainsIn m refs → w ≡ work_of m refs → AreChains w.chains
-chains_of m refs w are is = subst (λ (v : Work). AreChains v.chains) (sym is) (chains_cut_map m (map (chain_in m) refs) are.cut).are_chains
 
 pub clear_of : (m : Map) (refs : List ChainRef) (w : Work) (k : ℕ) → AreChainsIn m refs → w ≡ work_of m refs → IsMapArrangedBeside [] m → IsClearIn w.chains w.read.points k
 clear_of m refs w k are is arranged =

@@ -3,7 +3,7 @@ ghost use Rattle.std.specs.Prelude.{◌≡◌, ◌↔◌, ◌+◌, ◌-◌, ◌*
 ghost use Rattle.grid_exact.specs.Geometry.{Place};
 ghost use Rattle.chain_side.specs.Along.{IsAlong, vertex_at};
 ghost use Rattle.lane_kernels.specs.declared.side.Hand.{Hand};
-ghost use Rattle.arc_map.specs.Chains.{chain_at, AreChains, IsClearIn};
+ghost use Rattle.arc_map.specs.Chains.{chain_at, IsClearIn};
 ghost use Rattle.map_index.specs.IndexedMap.{items_in};
 ghost use Rattle.side_wedge.specs.Obstacles.{IsConsistentPair};
 ghost use Rattle.side_wedge.specs.Flanks.{IsBeside, StandsInRow, KeepsSides, row_of};
@@ -66,7 +66,6 @@ impl Beside {
     /// Finds what stands beside chain number `k` of the map: feature points and vertices of other chains. It takes no memory.
     pub fn load(&mut self, map: &IndexedMap, k: u32)
         requires chain { k < length map.now.chains }
-        requires chains { AreChains map.now.chains }
         requires room { items_in map.now ≤ self.old.room }
         ensures beside { IsBeside map.now.chains map.now.read.points k self.new }
         ensures room { self.new.room ≡ self.old.room }
@@ -90,7 +89,6 @@ impl Beside {
     /// (i, j) is consistent: whether nothing changes sides where the chain from i to j becomes a straight edge.
     pub fn consistent_from(&self, map: &IndexedMap, k: u32, i: usize, row: &mut [bool])
         requires chain { k < length map.now.chains }
-        requires chains { AreChains map.now.chains }
         requires clear { IsClearIn map.now.chains map.now.read.points k }
         requires beside { IsBeside map.now.chains map.now.read.points k self.now }
         requires start { i < length (chain_at map.now.chains k).rest }
@@ -99,11 +97,11 @@ impl Beside {
             ↔ ((i < j) × (j < length row.new) × IsConsistentPair map.now.chains map.now.read.points k i j) }
         ensures length { length row.new ≡ length row.old }
     {
+        let chain = map.chain(k);
         clear_to(row, i + 1);
         if self.is_empty() {
             allow_from(row, i + 1);
         } else {
-            let chain = map.chain(k);
             let frame = self.frame();
             self.write_row(chain, frame, rises(chain, frame), i, row);
         }

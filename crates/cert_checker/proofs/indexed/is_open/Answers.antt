@@ -35,6 +35,6 @@ returns c =
     let size : j < length ps = omega (arith, c.requires.within, places_count (chain_at w.chains k), ap length c.chain-chain.ensures.places) in
     let rest = take (j + 1 - (i + 1)) (drop (i + 1) ps) in
     let parts = subst (λ qs. RunParts qs i j first (take (c.args.j + 1 - (c.args.i + 1)) (drop (c.args.i + 1) c.chain-chain.result.now))) c.chain-chain.ensures.places (run_parts ps i j first c.requires.order size c.index-chain-i-2.is) in (
-      λ t. open_from_tests w found k i j low high first rest c.requires.chains c.requires.clear c.in_box.ensures c.requires.order c.requires.within parts c.of-extent.ensures (λ d. iff_false c.is_double.ensures c.if-is_double.false ((double_read w.chains k i j _ _ start end).1 d)) (c.items_let.ensures.0 t),
+      λ t. open_from_tests w found k i j low high first rest c.chain-chain.ensures.chains c.requires.clear c.in_box.ensures c.requires.order c.requires.within parts c.of-extent.ensures (λ d. iff_false c.is_double.ensures c.if-is_double.false ((double_read w.chains k i j _ _ start end).1 d)) (c.items_let.ensures.0 t),
       λ o. c.items_let.ensures.1 (tests_from_open w found k i j low high first rest c.chain-chain.ensures.edges c.in_box.ensures parts o),
     )

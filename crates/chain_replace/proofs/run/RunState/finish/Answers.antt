@@ -12,7 +12,7 @@ use Rattle.chain_replace.proofs.run.RunState.finish.Goals as goal
 
 pub adopt-requires : goal.adopt-requires
 adopt-requires c =
-    subst (λ (m : Map). IsMapArranged c.self.inside.held m) (sym c.finish.ensures) (arranged_now (progress_of c.self.inside) c.self.invariant.sound)
+    subst (λ (m : Map). IsMapArranged c.self.inside.terms.held m) (sym c.finish.ensures) (arranged_now (progress_of c.self.inside) c.self.invariant.sound)
 
 pub returns-clause-faces : goal.returns-clause-faces
 returns-clause-faces c =

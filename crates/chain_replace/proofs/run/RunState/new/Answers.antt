@@ -1,15 +1,19 @@
 -- A run begins with the chains of the map, and with room for all of them.
-use Rattle.std.proofs.Common.{◌∙◌, ℕ, List, [], length, refl, ap, sym, subst, arith}
+use Rattle.std.proofs.Common.{◌≡◌, ◌∙◌, ◌≤◌, ◌^◌, ℕ, List, [], length, refl, ap, sym, subst, arith}
 use Rattle.arc_map.specs.Map.{Map}
 use Rattle.arc_map.specs.Arranged.{IsMapArranged}
 use Rattle.arc_map.specs.Records.{Records}
-use Rattle.arc_map.specs.Work.{work_of, AreChainsIn}
+use Rattle.arc_map.specs.Work.{Work, work_of, AreChainsIn}
+use Rattle.chain_replace.specs.Rooms.{vertices_in}
 use Rattle.chain_replace.proofs.Advancing.{under_way_start}
 use Rattle.chain_replace.proofs.run.RunState.new.Goals as goal
 
 -- no records yet, and room for these numbers
 abbrev records_for : ℕ → ℕ → Records
 records_for chains places = record { entries = []; room = chains; kept_room = places; layers_room = places }
+
+pub build-requires : goal.build-requires
+build-requires c = subst (λ (n : Map). AreChainsIn n c.in_ok-chains.chains.items) (c.map.ensures.same ∙ sym c.into_map.ensures) c.in_ok-chains.ensures.chains
 
 pub invariant_of-result : goal.invariant_of-result
 invariant_of-result c =
@@ -21,11 +25,12 @@ invariant_of-result c =
     let vertices = c.vertex_count-vertices.ensures in
     under_way_start _ m refs
     (record {
-      work = c.in_ok-work.ensures ∙ ap (λ (n : Map). work_of n refs) c.into_map.ensures;
+      work = c.in_ok-map.ensures ∙ ap (λ (n : Map). work_of n refs) c.into_map.ensures;
       next = refl;
-      index = c.in_ok-index.ensures;
-      ends = c.in_ok-ends.ensures;
       items = omega (arith, c.in_ok-finder.ensures, c.item_count.ensures);
-      records = c.in_ok-records.ensures ∙ ap (λ (n : ℕ). records_for n c.vertex_count-vertices.result) room ∙ ap (λ (n : ℕ). records_for (length c.in_ok-work.work.chains) n) vertices;
+      records = c.in_ok-records.ensures
+          ∙ ap (λ (n : ℕ). records_for n c.vertex_count-vertices.result) room
+          ∙ ap (λ (n : ℕ). records_for (length c.work-work.result.now.chains) n) vertices
+          ∙ ap (λ (w : Work). records_for (length w.chains) (vertices_in w.chains)) c.work-work.ensures;
     })
-    chains was c.requires (omega (arith, room, c.chain_count.ensures.few))
+    chains was c.requires (subst (λ (w : Work). length w.chains ≤ 2 ^ 20) c.work-work.ensures (omega (arith, room, c.chain_count.ensures.few)))

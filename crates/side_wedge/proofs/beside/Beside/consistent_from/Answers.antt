@@ -18,7 +18,7 @@ returns-then-is_empty-clause-consistent c =
     (λ j early. c.allow_from.ensures.before j (omega arith) ∙ c.clear_to.ensures.clear j (omega arith))
     (λ j low high.
         let set = c.allow_from.ensures.set j (omega arith) high in
-        let pair = empty_exactly w.chains w.read.points c.args.k c.args.self.now c.args.i j (c.is_empty.ensures c.if-is_empty.true) c.requires.chains c.requires.clear c.requires.beside low (omega (arith, high, c.allow_from.ensures.length, c.clear_to.ensures.length, c.requires.row)) in
+        let pair = empty_exactly w.chains w.read.points c.args.k c.args.self.now c.args.i j (c.is_empty.ensures c.if-is_empty.true) c.chain-chain.ensures.chains c.requires.clear c.requires.beside low (omega (arith, high, c.allow_from.ensures.length, c.clear_to.ensures.length, c.requires.row)) in
         (λ t. pair, λ h. set))
 
 pub returns-else-is_empty-clause-consistent : goal.returns-else-is_empty-clause-consistent
@@ -27,4 +27,4 @@ returns-else-is_empty-clause-consistent c =
     let row = c.write_row.new.row in
     told_of_each (IsConsistentPair w.chains w.read.points c.args.k c.args.i) row c.args.i
     (λ j early. c.write_row.ensures.before j early ∙ c.clear_to.ensures.clear j (omega arith))
-    (λ j low high. told_exactly w.chains w.read.points c.args.k c.args.self.now c.chain-chain.result.now c.args.i j _ c.chain-chain.ensures.places c.requires.chains c.requires.clear c.requires.beside low (omega (arith, high, c.write_row.ensures.length, c.clear_to.ensures.length, c.requires.row)) (c.write_row.ensures.told j low high))
+    (λ j low high. told_exactly w.chains w.read.points c.args.k c.args.self.now c.chain-chain.result.now c.args.i j _ c.chain-chain.ensures.places c.chain-chain.ensures.chains c.requires.clear c.requires.beside low (omega (arith, high, c.write_row.ensures.length, c.clear_to.ensures.length, c.requires.row)) (c.write_row.ensures.told j low high))
