@@ -28,13 +28,7 @@ pub struct Subject<'a> {
 
 // Whether the pair of the vertices number `i` and `j` of the chain is allowed. The nearness part comes first, since nearly all pairs
 // fail there; see `is_near` for the culprit.
-fn allows(
-    map: &IndexedMap,
-    subject: &Subject<'_>,
-    i: usize,
-    j: usize,
-    culprit: &mut usize,
-) -> bool
+fn allows(map: &IndexedMap, subject: &Subject<'_>, i: usize, j: usize, culprit: &mut usize) -> bool
     requires subject { IsSubjectOf map.now subject.now.chain subject.now.weighted.now subject.now.weights }
     requires order { i < j }
     requires within { j ≤ edge_count map.now subject.now.chain }

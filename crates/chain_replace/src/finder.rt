@@ -133,14 +133,7 @@ impl PathFinder {
             bound: terms.bound,
             weights: terms.weights,
         };
-        fill_rows(
-            &mut self.rows,
-            map,
-            k,
-            &self.beside,
-            &ruler,
-            &mut self.row,
-        );
+        fill_rows(&mut self.rows, map, k, &self.beside, &ruler, &mut self.row);
         write_layers(&self.rows, count - 1, &mut self.layers);
         self.places = count;
         self.kept = write_path(&self.rows, count - 1, &self.layers[..count], &mut self.path);

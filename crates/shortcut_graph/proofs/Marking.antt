@@ -50,15 +50,17 @@ tells_but_last start last P Q row size alike none tells j = elim (cases_lt j las
   | inl below ↦
       let stays : get_or (set row last false) j false ≡ get_or row j false = get_or-set_other row last j false false (omega arith) in
       let length_stays = length-set row last false in (
-      λ t.
-          let h = (tells j).0 (subst (λ (b : Bool). IsTrue b) stays t) in
-          (h.0, omega (arith, h.1, length_stays), (alike j h.0 below).0 h.2),
-      λ h. subst (λ (b : Bool). IsTrue b) (sym stays) ((tells j).1 (h.0, omega (arith, h.1, length_stays), (alike j h.0 below).1 h.2)))
+        λ t.
+            let h = (tells j).0 (subst (λ (b : Bool). IsTrue b) stays t) in
+            (h.0, omega (arith, h.1, length_stays), (alike j h.0 below).0 h.2),
+        λ h. subst (λ (b : Bool). IsTrue b) (sym stays) ((tells j).1 (h.0, omega (arith, h.1, length_stays), (alike j h.0 below).1 h.2)),
+      )
   | inr up ↦ (
-      λ t. absurd (never_true (get_or (set row last false) j false) (cleared_from row last j size up) t),
-      λ h.
-          let same : j ≡ last = omega (arith, h.1, length-set row last false) in
-          absurd (none (subst Q same h.2)))
+    λ t. absurd (never_true (get_or (set row last false) j false) (cleared_from row last j size up) t),
+    λ h.
+        let same : j ≡ last = omega (arith, h.1, length-set row last false) in
+        absurd (none (subst Q same h.2)),
+  )
 ]
 
 -- ---- the open pairs of a start

@@ -49,13 +49,7 @@ pub fn fill(
 }
 
 // Writes to each place of `row` whether this vertex is past `start`, and nothing but the bound can stand against the pair of both.
-fn mark_open(
-    map: &IndexedMap,
-    k: u32,
-    beside: &Beside,
-    start: usize,
-    row: &mut [bool],
-)
+fn mark_open(map: &IndexedMap, k: u32, beside: &Beside, start: usize, row: &mut [bool])
     requires chain { k < length map.now.chains }
     requires clear { IsClearIn map.now.chains map.now.read.points k }
     requires beside { IsBeside map.now.chains map.now.read.points k beside.now }

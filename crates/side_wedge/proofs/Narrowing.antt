@@ -105,10 +105,13 @@ told_more b chain i edge row t within told here j low high =
 
 -- a row that is clear up to i, and tells of each place past it
 pub told_of_each : (P : ℕ → Type 0) (row : List Bool) (i : ℕ) → ((j : ℕ) → j ≤ i → get_or row j false ≡ false) → ((j : ℕ) → i < j → j < length row → IsTrue (get_or row j false) ↔ P j) → (j : ℕ) → IsTrue (get_or row j false) ↔ ((i < j) × (j < length row) × P j)
-told_of_each P row i clear told j = (λ t. elim (cases_lt i j) [
-  | inr early ↦ let no_one = clear j (omega arith) in absurd (cc)
-  | inl past ↦ elim (cases_lt j (length row)) [
-    | inr over ↦ let no_one = get_or_past row j false over in absurd (cc)
-    | inl within ↦ (past, within, (told j past within).0 t)
-  ]
-], λ h. (told j h.0 h.1).1 h.2)
+told_of_each P row i clear told j = (
+  λ t. elim (cases_lt i j) [
+    | inr early ↦ let no_one = clear j (omega arith) in absurd (cc)
+    | inl past ↦ elim (cases_lt j (length row)) [
+      | inr over ↦ let no_one = get_or_past row j false over in absurd (cc)
+      | inl within ↦ (past, within, (told j past within).0 t)
+    ]
+  ],
+  λ h. (told j h.0 h.1).1 h.2,
+)

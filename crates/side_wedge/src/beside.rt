@@ -72,14 +72,7 @@ impl Beside {
     {
         let chain = map.chain(k);
         let frame = map.frame(k);
-        gather(
-            &mut self.strays,
-            chain,
-            frame,
-            rises(chain, frame),
-            k,
-            map,
-        );
+        gather(&mut self.strays, chain, frame, rises(chain, frame), k, map);
         write_starts(&mut self.starts, &self.strays, 2 * (chain.len() as u32 - 1));
         write_places(&mut self.xs, &mut self.ys, &self.strays);
         self.frame = frame;

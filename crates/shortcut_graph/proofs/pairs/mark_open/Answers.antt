@@ -1,5 +1,5 @@
 -- Only the pair of the first and the last vertex can have a double edge.
-use Rattle.std.proofs.Common.{◌≡◌, ◌∙◌, suc, ◌-◌, ◌≤◌, ◌<◌, length, ap, arith}
+use Rattle.std.proofs.Common.{◌≡◌, ◌∙◌, suc, ◌-◌, ◌≤◌, length, ap, arith}
 use Rattle.arc_map.specs.Chains.{chain_at}
 use Rattle.shortcut_graph.proofs.Numbers.{length-chain_places}
 use Rattle.shortcut_graph.proofs.Marking.{opens_but_last, opens_single, single_inside, single_else, never_true}
@@ -18,9 +18,9 @@ returns-else-start-eq0 c =
     let points = c.args.map.now.read.points in
     opens_single chains points c.args.k c.args.start c.consistent_from.new.row
     (λ j past within.
-        let jm : j ≤ length (chain_at chains c.args.k).rest = omega arith in
-        elim c.else-start-eq0.branch [
-          | else-start-eq0-via-then-start-eq0+else-is_doubled w ↦ single_else chains points c.args.k c.args.start j c.chain.ensures.chains c.requires.clear past jm (λ d. never_true w.is_doubled.result w.if-is_doubled.false (w.is_doubled.ensures.1 d))
-          | else-start-eq0-via-else-start-eq0 w ↦ single_inside chains points c.args.k c.args.start j c.chain.ensures.chains c.requires.clear past jm w.if-start-eq0.false
-        ])
+    let jm : j ≤ length (chain_at chains c.args.k).rest = omega arith in
+    elim c.else-start-eq0.branch [
+      | else-start-eq0-via-then-start-eq0+else-is_doubled w ↦ single_else chains points c.args.k c.args.start j c.chain.ensures.chains c.requires.clear past jm (λ d. never_true w.is_doubled.result w.if-is_doubled.false (w.is_doubled.ensures.1 d))
+      | else-start-eq0-via-else-start-eq0 w ↦ single_inside chains points c.args.k c.args.start j c.chain.ensures.chains c.requires.clear past jm w.if-start-eq0.false
+    ])
     c.consistent_from.ensures.consistent

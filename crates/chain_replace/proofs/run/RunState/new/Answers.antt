@@ -1,5 +1,5 @@
 -- A run begins with the chains of the map, and with room for all of them.
-use Rattle.std.proofs.Common.{◌≡◌, ◌∙◌, ◌≤◌, ◌^◌, ℕ, List, [], length, refl, ap, sym, subst, arith}
+use Rattle.std.proofs.Common.{◌∙◌, ◌≤◌, ◌^◌, ℕ, List, [], length, refl, ap, sym, subst, arith}
 use Rattle.arc_map.specs.Map.{Map}
 use Rattle.arc_map.specs.Arranged.{IsMapArranged}
 use Rattle.arc_map.specs.Records.{Records}

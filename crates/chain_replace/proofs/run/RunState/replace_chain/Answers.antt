@@ -69,7 +69,7 @@ returns-then-has-clause-step c =
 pub returns-then-has-clause-faces : goal.returns-then-has-clause-faces
 returns-then-has-clause-faces c =
     let s = c.self.inside in
-    subst (λ (p : Progress). KeepsFaces p.terms.terms.held (map_so_far p) (map_so_far (progress_of (with_next s (s.next + 1))))) c.self.view_is (faces_stay (progress_of s) c.self.invariant.sound)
+    subst (λ (p : Progress). KeepsFaces p.terms.held (map_so_far p) (map_so_far (progress_of (with_next s (s.next + 1))))) c.self.view_is (faces_stay (progress_of s) c.self.invariant.sound)
 
 pub find-requires-clause-clear : goal.find-requires-clause-clear
 find-requires-clause-clear c =
@@ -132,5 +132,5 @@ returns-clause-faces c =
     let kept = c.path-kept.result.now in
     let entry : Record = record { arc = r.arc; «from» = r.«from»; kept = kept; layers = c.layers.result.now } in
     let is = found_here s r c.find.new.self kept c.layers.result.now here.place c.find.ensures.path c.find.ensures.layers c.path-kept.ensures c.layers.ensures in
-    as_written (λ a. KeepsFaces c.args.self.now.terms.terms.held (map_so_far c.args.self.now) (map_so_far (progress_of a))) s entry c.find.new.self c.thin.new.self c.push.new.self c.thin.ensures c.push.ensures
-    (subst (λ (p : Progress). KeepsFaces p.terms.terms.held (map_so_far p) (map_so_far (progress_of (with_record s entry c.find.new.self)))) c.self.view_is (faces_go s entry c.find.new.self c.self.invariant here.below free is))
+    as_written (λ a. KeepsFaces c.args.self.now.terms.held (map_so_far c.args.self.now) (map_so_far (progress_of a))) s entry c.find.new.self c.thin.new.self c.push.new.self c.thin.ensures c.push.ensures
+    (subst (λ (p : Progress). KeepsFaces p.terms.held (map_so_far p) (map_so_far (progress_of (with_record s entry c.find.new.self)))) c.self.view_is (faces_go s entry c.find.new.self c.self.invariant here.below free is))

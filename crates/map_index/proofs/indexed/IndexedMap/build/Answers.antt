@@ -1,6 +1,6 @@
 -- At first each chain is as read, and all vertices are live.
 use Rattle.std.proofs.Common.{◌≡◌, length, sym, subst}
-use Rattle.arc_map.specs.Work.{Work, work_of}
+use Rattle.arc_map.specs.Work.{Work}
 use Rattle.map_index.specs.IndexedMap.{items_in}
 use Rattle.map_index.specs.Listing.{items_of}
 use Rattle.map_index.proofs.AsRead.{all_as_read}

@@ -17,9 +17,9 @@ returns-then-is_empty-clause-consistent c =
     told_of_each (IsConsistentPair w.chains w.read.points c.args.k c.args.i) row c.args.i
     (λ j early. c.allow_from.ensures.before j (omega arith) ∙ c.clear_to.ensures.clear j (omega arith))
     (λ j low high.
-        let set = c.allow_from.ensures.set j (omega arith) high in
-        let pair = empty_exactly w.chains w.read.points c.args.k c.args.self.now c.args.i j (c.is_empty.ensures c.if-is_empty.true) c.chain-chain.ensures.chains c.requires.clear c.requires.beside low (omega (arith, high, c.allow_from.ensures.length, c.clear_to.ensures.length, c.requires.row)) in
-        (λ t. pair, λ h. set))
+    let set = c.allow_from.ensures.set j (omega arith) high in
+    let pair = empty_exactly w.chains w.read.points c.args.k c.args.self.now c.args.i j (c.is_empty.ensures c.if-is_empty.true) c.chain-chain.ensures.chains c.requires.clear c.requires.beside low (omega (arith, high, c.allow_from.ensures.length, c.clear_to.ensures.length, c.requires.row)) in
+    (λ t. pair, λ h. set))
 
 pub returns-else-is_empty-clause-consistent : goal.returns-else-is_empty-clause-consistent
 returns-else-is_empty-clause-consistent c =
