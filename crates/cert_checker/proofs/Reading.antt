@@ -7,7 +7,7 @@ use Rattle.std.proofs.lemmas.List.FromFn.{get_or-map-range_with_len, length-rang
 use Rattle.std.proofs.lemmas.List.Elements.{All-cons, All-from_get_or}
 use Rattle.grid_exact.specs.Geometry.{Place}
 use Rattle.arc_map.specs.Arranged.{arc_at, nowhere, position_at}
-use Rattle.arc_map.specs.Chains.{Chain, chain_at, chain_places, no_chain}
+use Rattle.arc_map.specs.Chains.{chain_at, chain_places, no_chain}
 use Rattle.arc_map.specs.Map.{Map}
 use Rattle.arc_map.specs.Vertices.{places}
 use Rattle.arc_map.specs.Work.{LiesInArc, chain_in, vertex_in}

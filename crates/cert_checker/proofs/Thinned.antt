@@ -1,12 +1,9 @@
 -- What thinning leaves.
-use Rattle.std.proofs.Common.{◌≡◌, ◌∙◌, ◌-◌, ◌<◌, ◌≤◌, ℕ, List, length, set, drop, sym, ap, subst, arith, inl, inr, length-set, slice_index}
+use Rattle.std.proofs.Common.{◌≡◌, ℕ, List}
 use Rattle.std.specs.Prelude.{◌≢◌}
-use Rattle.std.proofs.lemmas.Bool.{cases_eq, cases_lt}
-use Rattle.std.proofs.lemmas.List.{get_or-set_other, get_or-set_same, length-drop, length-map}
+use Rattle.std.proofs.lemmas.List.{get_or-set_other}
 use Rattle.arc_map.specs.Chains.{Chain, chain_at, no_chain, thinned}
-use Rattle.arc_map.specs.Paths.{vertex_at, vertices_at}
 use Rattle.arc_map.specs.Vertices.{Vertex}
-use Rattle.arc_map.specs.Work.{AreKeptIn, Work, thinned_work}
 
 -- another chain stays
 pub other_thinned : (chains : List Chain) (k l : ℕ) (kept : List Vertex) → l ≢ k → chain_at (thinned chains k kept) l ≡ chain_at chains l
