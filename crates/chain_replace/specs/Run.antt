@@ -10,8 +10,11 @@ use Rattle.arc_map.specs.Paths.{IsAllowedPair}
 use Rattle.arc_map.specs.Records.{Record}
 use Rattle.arc_map.specs.Work.{Work, work_of, AreChainsIn, thinned_work}
 use Rattle.arc_map.specs.declared.refs.ChainRef.{ChainRef}
+use Rattle.chain_replace.specs.declared.terms.Terms.{Terms as GivenTerms}
+
 -- what a run is given besides the map: the arcs that are held, the bound and the weights
-pub use Rattle.chain_replace.specs.declared.terms.Terms.{Terms}
+abbrev pub Terms : Type 0
+Terms = GivenTerms
 
 -- within the bound, with the weights
 abbrev pub NearBy : Terms → Place → Place → Place → Type 0

@@ -88,6 +88,13 @@ impl RunState {
         })
     }
 
+    /// What the run was given besides the map.
+    pub fn terms(&self) -> &Terms
+        ensures { result.now ≡ self.now.terms }
+    {
+        &self.terms
+    }
+
     /// The number of the next chain, from 0.
     pub fn next(&self) -> u32
         ensures { result ≡ self.now.next }

@@ -2,10 +2,13 @@
 use arc_map::ArcList;
 use grid_exact::{Bound, Weights};
 
-// The arcs that are held, the bound, in grid units, and the weights.
+/// What a run is given besides the map.
 #[derive(Drop)]
 pub struct Terms {
+    /// the arcs that are held: their chains stay
     pub held: ArcList,
+    /// how far a skipped vertex may be from the edge that skips it, in grid units
     pub bound: Bound,
+    /// what each coordinate counts in a distance
     pub weights: Weights,
 }
