@@ -67,7 +67,7 @@ unweighed w z least on_grid =
     ]
 
 -- what stays on the grid with weights does so without
-stay_unweighed : (weights : Option Scales) (arcs : List (List Place)) → AreWeights weights → All (All (StaysOnGrid (scales_of weights))) arcs → All (All (StaysOnGrid ones)) arcs
+pub stay_unweighed : (weights : Option Scales) (arcs : List (List Place)) → AreWeights weights → All (All (StaysOnGrid (scales_of weights))) arcs → All (All (StaysOnGrid ones)) arcs
 stay_unweighed None arcs are stay = stay
 stay_unweighed (Some w) arcs are stay = λ arc d within at e inside.
     let there = stay arc d within at e inside in
@@ -75,7 +75,7 @@ stay_unweighed (Some w) arcs are stay = λ arc d within at e inside.
     record { across = unweighed w.x p.x are.0.low there.across; up = unweighed w.y p.y are.1.low there.up }
 
 -- the positions of a map that fits in the place of another are positions of that
-fitting_stay : (w : Scales) (m new : Map) → FitsIn m new → All (All (StaysOnGrid w)) m.arcs → All (All (StaysOnGrid w)) new.arcs
+pub fitting_stay : (w : Scales) (m new : Map) → FitsIn m new → All (All (StaysOnGrid w)) m.arcs → All (All (StaysOnGrid w)) new.arcs
 fitting_stay w m new fits stay = λ arc d within at e inside.
     let below : arc < length m.arcs = omega (arith, fits.count, within) in
     let same : get_or new.arcs arc d ≡ arc_at new arc = get_or_default new.arcs arc d [] within in

@@ -30,3 +30,9 @@ pub mod ReadBack
 pub mod SameLines
 pub mod FacesAlike
 pub mod Judging
+pub mod CertificateLengths
+pub mod ChainEdges
+pub mod ShortCertificates
+pub mod ArcsValue
+pub mod ShortTexts
+pub mod ShortOutputs

@@ -37,7 +37,7 @@ path_is_small : (Pair : ℕ → ℕ → Type 0) (m : ℕ) (path : List ℕ) → 
 path_is_small Pair m [] small none = absurd none
 path_is_small Pair m (start ∷ rest) small path = way_is_small Pair m start rest small (subst (λ (i : ℕ). LeadsTo Pair m i rest) (sym path.0) path.1)
 
-steps_left : (Pair : ℕ → ℕ → Type 0) (m i : ℕ) (rest : List ℕ) → LeadsTo Pair m i rest → i + length rest ≤ m
+pub steps_left : (Pair : ℕ → ℕ → Type 0) (m i : ℕ) (rest : List ℕ) → LeadsTo Pair m i rest → i + length rest ≤ m
 steps_left Pair m i [] leads = omega (arith, leads)
 steps_left Pair m i (next ∷ rest) leads = omega (arith, leads.0, steps_left Pair m next rest leads.2)
 

@@ -1,5 +1,5 @@
 -- The laws of the command: what a run writes is judged Yes, reads back, and has the lines of `faces` of the text that was given.
-use Rattle.std.specs.Prelude.{◌≡◌, ◌↔◌, ℕ, ℤ, false, List}
+use Rattle.std.specs.Prelude.{◌≡◌, ◌↔◌, ◌≤◌, ℕ, ℤ, false, List, length}
 use Rattle.arc_map.specs.Map.{Map}
 use Rattle.arc_map.specs.Arcs.{map_now}
 use Rattle.arc_map.specs.Arranged.{IsMapArranged}
@@ -17,7 +17,8 @@ use Rattle.cert_checker.specs.declared.verdicts.Verdict.TheVariants.{Yes}
 use Rattle.top_call.specs.declared.forms.Options.{Options}
 use Rattle.top_call.specs.Maps.{HasTopology}
 use Rattle.top_call.specs.Answers.{Answer, done, told, IsSimplified, IsCertified, IsChecked, IsWorkAnswer, faces_text}
-use Rattle.top_call.specs.Reading.{Read}
+use Rattle.top_call.specs.Reading.{Read, limit_of}
+use Rattle.top_call.specs.declared.status.Role.TheVariants.{File, Out, Cert}
 use Rattle.top_call.specs.Requests.{IsBound, AreWeights, IsWithinLimits}
 use Rattle.top_call.specs.Words.{Simplify, Layers, Check, Faces}
 
@@ -78,3 +79,13 @@ pub record AnswersAlike (options : Options) (file out : List ℕ) (read written 
 -- Where OUT is what `simplify` answers to FILE, `faces` answers both alike.
 abbrev pub FacesAnswersAlike : Type 0
 FacesAnswersAlike = (options : Options) (bound : ℤ) (file out : List ℕ) (read written : Read) → IsWithinLimits (Simplify options bound file) → IsWorkAnswer (Simplify options bound file) read (done written.file) → AnswersAlike options file out read written
+
+-- ---- limits
+
+-- What `simplify` writes of a text that is no longer than FILE may be is no longer than OUT may be.
+abbrev pub SimplifiedIsShort : Type 0
+SimplifiedIsShort = (options : Options) (bound : ℤ) (text bytes : List ℕ) → AreWeights options.weights → length text ≤ limit_of File → IsSimplified options bound text bytes → length bytes ≤ limit_of Out
+
+-- What `layers` writes of a text is no longer than CERT may be.
+abbrev pub CertifiedIsShort : Type 0
+CertifiedIsShort = (options : Options) (bound : ℤ) (text bytes : List ℕ) → AreWeights options.weights → IsBound bound → IsCertified options bound text bytes → length bytes ≤ limit_of Cert

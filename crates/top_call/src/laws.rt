@@ -1,5 +1,5 @@
 //! Laws of the command over the definitions alone, each as the contract of a function that does nothing.
-ghost use Rattle.top_call.specs.Laws.{CheckAnswersYes, FacesAnswersAlike, OutcomeKeepsLines, RecordsAreJudgedYes, SimplifiedChecksYes, SimplifiedKeepsLines, SimplifiedReadsBack};
+ghost use Rattle.top_call.specs.Laws.{CertifiedIsShort, CheckAnswersYes, FacesAnswersAlike, OutcomeKeepsLines, RecordsAreJudgedYes, SimplifiedChecksYes, SimplifiedIsShort, SimplifiedKeepsLines, SimplifiedReadsBack};
 
 /// The records of a run pass each test of the judge, and the judged map is the outcome of the run.
 pub fn records_are_judged_yes()
@@ -41,4 +41,14 @@ pub fn simplified_keeps_lines()
 /// reads, of at most 2^26 bytes.
 pub fn faces_answers_alike()
     ensures { FacesAnswersAlike }
+{}
+
+/// What `simplify` writes of a text of at most 2^26 bytes is at most 2^27 bytes, so it is no longer than OUT may be.
+pub fn simplified_is_short()
+    ensures { SimplifiedIsShort }
+{}
+
+/// What `layers` writes of a text is at most 2^26 bytes, so it is no longer than CERT may be.
+pub fn certified_is_short()
+    ensures { CertifiedIsShort }
 {}
