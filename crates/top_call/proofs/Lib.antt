@@ -36,3 +36,6 @@ pub mod ShortCertificates
 pub mod ArcsValue
 pub mod ShortTexts
 pub mod ShortOutputs
+pub mod OneRefusal
+pub mod OneVerdict
+pub mod AnswerOfWords

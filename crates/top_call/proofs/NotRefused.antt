@@ -35,13 +35,13 @@ not_unarranged hold m s arranged (Clash e f none least is) =
 not_unarranged hold m s arranged (OnArc k e none least is) = nothing_held e.arc ((arranged none).points k e least.point least.edge least.on)
 
 -- where all positions stay on the grid there is no first that does not
-none_first_off : (w : Scales) (places : List Place) (at : ℕ) → All (StaysOnGrid w) places → IsFirstOff w places at → ⊥
+pub none_first_off : (w : Scales) (places : List Place) (at : ℕ) → All (StaysOnGrid w) places → IsFirstOff w places at → ⊥
 none_first_off w places at stay first =
     let within = slice_get_within places at first.place first.there in
     let stays = All-get_or (StaysOnGrid w) places at first.place within stay in
     first.off (subst (StaysOnGrid w) (get_or_from_slice_get places at first.place first.place first.there) stays)
 
-not_off : (w : Scales) (arcs : List (List Place)) (arc at : ℕ) → All (All (StaysOnGrid w)) arcs → IsFirstOffIn w arcs arc at → ⊥
+pub not_off : (w : Scales) (arcs : List (List Place)) (arc at : ℕ) → All (All (StaysOnGrid w)) arcs → IsFirstOffIn w arcs arc at → ⊥
 not_off w arcs arc at stay off = none_first_off w (get_or arcs arc []) at (All-get_or (All (StaysOnGrid w)) arcs arc [] off.within stay) off.first
 
 -- a text is not refused that has a topology, whose positions the weights leave on the grid, and whose map is arranged where no arcs are to

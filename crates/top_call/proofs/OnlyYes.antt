@@ -27,12 +27,12 @@ use Rattle.top_call.proofs.SmallRecords.{run_is_certified}
 -- ---- one verdict
 
 -- two judgements of one certificate
-record SameJudgement (t u : TopologyRead) (v w : Verdict) (here there : List Chain) : Type 0 where
-  topology : t ≡ u
-  verdict : v ≡ w
-  chains : here ≡ there
+pub record SameJudgement (t u : TopologyRead) (v w : Verdict) (here there : List Chain) : Type 0 where
+  pub topology : t ≡ u
+  pub verdict : v ≡ w
+  pub chains : here ≡ there
 
-judged_for_once : (options : Options) (bound : ℤ) (text cert : List ℕ) (t u : TopologyRead) (v w : Verdict) (here there : List Chain) → IsJudgedFor options bound text cert t v here → IsJudgedFor options bound text cert u w there → SameJudgement t u v w here there
+pub judged_for_once : (options : Options) (bound : ℤ) (text cert : List ℕ) (t u : TopologyRead) (v w : Verdict) (here there : List Chain) → IsJudgedFor options bound text cert t v here → IsJudgedFor options bound text cert u w there → SameJudgement t u v w here there
 judged_for_once options bound text cert t u v w here there first second =
     let d = demand (version_of options) bound (scales_of options.weights) in
     let same = loaded_is_one options text t u first.held second.held first.loaded second.loaded in
@@ -48,7 +48,7 @@ judged_for_once options bound text cert t u v w here there first second =
 
 -- ---- equal texts have no first difference
 
-compared_equal : (expected out : List ℕ) (v : Verdict) → expected ≡ out → IsComparison expected out v → v ≡ Yes
+pub compared_equal : (expected out : List ℕ) (v : Verdict) → expected ≡ out → IsComparison expected out v → v ≡ Yes
 compared_equal expected out Yes same found = refl
 compared_equal expected out (No (reasons.Text at)) same found = absurd (found.differ (ap (λ (xs : List ℕ). slice_get xs at) same))
 compared_equal expected out (No reasons.Form) same found = absurd found

@@ -101,7 +101,7 @@ none_unheld texts [] within unheld = unheld
 none_unheld texts (n ∷ ns) within (inl none) = subst (IsWithin n.0) none within.0
 none_unheld texts (n ∷ ns) within (inr later) = none_unheld texts ns within.1 later.1
 
-within_not_past : (role : Role) (text : Option (List ℕ)) → IsWithin role text → IsPast role text → ⊥
+pub within_not_past : (role : Role) (text : Option (List ℕ)) → IsWithin role text → IsPast role text → ⊥
 within_not_past role None within past = past
 within_not_past role (Some bytes) within past = omega (arith, within, past)
 

@@ -7,6 +7,7 @@ use Rattle.arc_map.specs.Chains.{Chain}
 use Rattle.arc_map.specs.Records.{Record}
 use Rattle.arc_map.specs.Work.{work_of, AreChainsIn}
 use Rattle.arc_map.specs.declared.refs.ChainRef.{ChainRef}
+use Rattle.outside_io.specs.Texts.{Texts}
 use Rattle.topo_reader.specs.Reads.{TopologyRead}
 use Rattle.topo_writer.specs.Reading.{ReadsAs}
 use Rattle.cert_format.specs.Certificate.{Content, content}
@@ -16,7 +17,7 @@ use Rattle.cert_checker.specs.declared.verdicts.Verdict.{Verdict}
 use Rattle.cert_checker.specs.declared.verdicts.Verdict.TheVariants.{Yes}
 use Rattle.top_call.specs.declared.forms.Options.{Options}
 use Rattle.top_call.specs.Maps.{HasTopology}
-use Rattle.top_call.specs.Answers.{Answer, done, told, IsSimplified, IsCertified, IsChecked, IsWorkAnswer, faces_text}
+use Rattle.top_call.specs.Answers.{Answer, done, told, IsSimplified, IsCertified, IsChecked, IsWorkAnswer, IsAnswer, faces_text}
 use Rattle.top_call.specs.Reading.{Read, limit_of}
 use Rattle.top_call.specs.declared.status.Role.TheVariants.{File, Out, Cert}
 use Rattle.top_call.specs.Requests.{IsBound, AreWeights, IsWithinLimits}
@@ -79,6 +80,12 @@ pub record AnswersAlike (options : Options) (file out : List ℕ) (read written 
 -- Where OUT is what `simplify` answers to FILE, `faces` answers both alike.
 abbrev pub FacesAnswersAlike : Type 0
 FacesAnswersAlike = (options : Options) (bound : ℤ) (file out : List ℕ) (read written : Read) → IsWithinLimits (Simplify options bound file) → IsWorkAnswer (Simplify options bound file) read (done written.file) → AnswersAlike options file out read written
+
+-- ---- one answer
+
+-- The words have one answer over the texts that are held, so each refusal comes exactly where the definition gives it.
+abbrev pub AnswerIsOne : Type 0
+AnswerIsOne = (words : List (List ℕ)) (texts : Texts) (a b : Answer) → IsAnswer words texts a → IsAnswer words texts b → a ≡ b
 
 -- ---- limits
 

@@ -1,5 +1,5 @@
 //! Laws of the command over the definitions alone, each as the contract of a function that does nothing.
-ghost use Rattle.top_call.specs.Laws.{CertifiedIsShort, CheckAnswersYes, FacesAnswersAlike, OutcomeKeepsLines, RecordsAreJudgedYes, SimplifiedChecksYes, SimplifiedIsShort, SimplifiedKeepsLines, SimplifiedReadsBack};
+ghost use Rattle.top_call.specs.Laws.{AnswerIsOne, CertifiedIsShort, CheckAnswersYes, FacesAnswersAlike, OutcomeKeepsLines, RecordsAreJudgedYes, SimplifiedChecksYes, SimplifiedIsShort, SimplifiedKeepsLines, SimplifiedReadsBack};
 
 /// The records of a run pass each test of the judge, and the judged map is the outcome of the run.
 pub fn records_are_judged_yes()
@@ -41,6 +41,11 @@ pub fn simplified_keeps_lines()
 /// reads, of at most 2^26 bytes.
 pub fn faces_answers_alike()
     ensures { FacesAnswersAlike }
+{}
+
+/// The words have one answer over the texts that are held: two answers are equal, in status and in bytes.
+pub fn answer_is_one()
+    ensures { AnswerIsOne }
 {}
 
 /// What `simplify` writes of a text of at most 2^26 bytes is at most 2^27 bytes, so it is no longer than OUT may be.
