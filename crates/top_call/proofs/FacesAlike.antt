@@ -117,7 +117,7 @@ only_lines text t held lines loaded are a = (only, there)
     there is = Written lines (record { topology = t; held = held; loaded = loaded; written = are }) is
 
 -- the lines of a text are the one answer to what is written of it
-lines_written : (options : Options) (bound : ℤ) (text bytes lines : List ℕ) → IsSimplified options bound text bytes → IsFaced text lines → IsOnlyAnswer (IsMapAnswer plain bytes (IsFaced bytes)) (done lines)
+pub lines_written : (options : Options) (bound : ℤ) (text bytes lines : List ℕ) → IsSimplified options bound text bytes → IsFaced text lines → IsOnlyAnswer (IsMapAnswer plain bytes (IsFaced bytes)) (done lines)
 lines_written options bound text bytes lines is faced =
     let loaded = is.run.loaded in
     let m = is.topology.map in
@@ -135,7 +135,7 @@ lines_written options bound text bytes lines is faced =
     only_lines bytes (record { map = is.after; arcs_at = reads.arcs_at }) [] lines written (faced.written ∙ sym keeps)
 
 -- where no arcs are to be held, a text that is simplified has lines
-plain_lines : (options : Options) (bound : ℤ) (text bytes : List ℕ) → options.hold ≡ false → AreWeights options.weights → IsSimplified options bound text bytes → (lines : List ℕ) × IsFaced text lines
+pub plain_lines : (options : Options) (bound : ℤ) (text bytes : List ℕ) → options.hold ≡ false → AreWeights options.weights → IsSimplified options bound text bytes → (lines : List ℕ) × IsFaced text lines
 plain_lines options bound text bytes none weights is =
     let loaded = is.run.loaded in
     let arranged = plainly_beside options.hold is.topology.map is.held none loaded.beside in

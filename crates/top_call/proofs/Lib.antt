@@ -39,3 +39,4 @@ pub mod ShortOutputs
 pub mod OneRefusal
 pub mod OneVerdict
 pub mod AnswerOfWords
+pub mod Finished

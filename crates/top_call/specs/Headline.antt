@@ -1,6 +1,6 @@
 -- What is promised of a run: the text that `simplify` writes is faithful to the one that it was given, a text that loads is worked on, what
--- was written for it is judged, and `make` and `demo` refuse nothing.
-use Rattle.std.specs.Prelude.{◌≡◌, ◌⊎◌, ◌-◌, ◌<◌, ◌≤◌, ℕ, ℤ, List, ◌++◌, length, take, get_or, Some}
+-- was written for it is judged and found right, and `make` and `demo` refuse nothing.
+use Rattle.std.specs.Prelude.{◌≡◌, ◌⊎◌, ◌-◌, ◌<◌, ◌≤◌, ℕ, ℤ, Bool, false, List, ◌++◌, length, take, get_or, Some}
 use Rattle.grid_exact.specs.Paths.{Certifies}
 use Rattle.arc_map.specs.Map.{Map}
 use Rattle.arc_map.specs.Records.{Record}
@@ -11,6 +11,7 @@ use Rattle.chain_replace.specs.Laws.{KeepsFaces}
 use Rattle.chain_replace.specs.Run.{Terms, IsAllowedIn, last_of, IsRecordOf, AreReplaced, IsOutcome}
 use Rattle.chain_replace.specs.Thinned.{ThinsArcs}
 use Rattle.cert_checker.specs.declared.verdicts.Reason.{Reason}
+use Rattle.cert_checker.specs.declared.verdicts.Verdict.TheVariants.{Yes}
 use Rattle.top_call.specs.declared.forms.Options.{Options}
 use Rattle.top_call.specs.declared.status.Role.TheVariants.{File, Out, Cert}
 use Rattle.top_call.specs.declared.status.Status.{Status}
@@ -18,7 +19,10 @@ use Rattle.top_call.specs.declared.status.Status.TheVariants.{Done, No, WriteFau
 use Rattle.top_call.specs.Words.{Form, Simplify, Layers, Check, Faces, Make, Demo, form_of}
 use Rattle.top_call.specs.Reading.{limit_of, IsWithin}
 use Rattle.top_call.specs.Maps.{IsLoaded}
-use Rattle.top_call.specs.Answers.{plain, terms_of, text_with}
+use Rattle.top_call.specs.Requests.{IsWithinLimits}
+use Rattle.top_call.specs.Verdicts.{verdict_line}
+use Rattle.top_call.specs.Answers.{done, plain, terms_of, text_with, IsFormAnswer}
+use Rattle.top_call.specs.Endings.{Wrote}
 
 -- ---- what is written of a text that is simplified
 
@@ -94,6 +98,46 @@ IsJudgingStatus s = (s ≡ Done) ⊎ (((reason : Reason) × (s ≡ No reason)) �
 -- where FILE is ready, and OUT and CERT are held and short enough, `check` ends in no other way
 abbrev pub Judges : List (List ℕ) → Texts → Status → Type 0
 Judges words texts result = (options : Options) (bound : ℤ) (file out cert : List ℕ) → form_of words ≡ Some (Check options bound file out cert) → CanJudge options texts file out cert → IsJudgingStatus result
+
+-- ---- what was written for FILE
+
+-- the run is done and these bytes were written, or memory was wanting
+abbrev pub Finishes : Bool → List ℕ → List ℕ → List ℕ → Status → Type 0
+Finishes tells before now bytes result = ((result ≡ Done) × Wrote tells before now bytes) ⊎ (result ≡ NoMemory)
+
+-- OUT and CERT are held, and are what `simplify` and `layers` answer to FILE
+pub record AreWrittenFor (options : Options) (bound : ℤ) (texts : Texts) (file out cert : List ℕ) : Type 0 where
+  pub written : List ℕ
+  pub out_held : text_of texts out ≡ Some written
+  pub simplified : IsFormAnswer (Simplify options bound file) texts (done written)
+  pub certificate : List ℕ
+  pub cert_held : text_of texts cert ≡ Some certificate
+  pub certified : IsFormAnswer (Layers options bound file) texts (done certificate)
+
+-- where they are, `check` with the same options and bound says yes
+abbrev pub ReachesYes : List (List ℕ) → Texts → Bool → List ℕ → List ℕ → Status → Type 0
+ReachesYes words texts tells before now result =
+    (options : Options) (bound : ℤ) (file out cert : List ℕ) → form_of words ≡ Some (Check options bound file out cert) → AreWrittenFor options bound texts file out cert → Finishes tells before now (verdict_line Yes) result
+
+-- OUT is held, is what `simplify` answers to FILE, and is no longer than FILE may be
+pub record IsWrittenFor (options : Options) (bound : ℤ) (texts : Texts) (file out : List ℕ) : Type 0 where
+  pub limits : IsWithinLimits (Simplify options bound file)
+  pub written : List ℕ
+  pub is_held : text_of texts out ≡ Some written
+  pub short : length written ≤ limit_of File
+  pub simplified : IsFormAnswer (Simplify options bound file) texts (done written)
+
+-- `faces` ends on OUT as it is answered to FILE
+pub record FacesAlike (options : Options) (texts : Texts) (file : List ℕ) (tells : Bool) (before now : List ℕ) (result : Status) : Type 0 where
+  -- where no arcs are to be held, FILE is answered with some lines
+  pub has_lines : options.hold ≡ false → (lines : List ℕ) × IsFormAnswer (Faces file) texts (done lines)
+  -- lines with which FILE is answered are written of OUT
+  pub same_lines : (lines : List ℕ) → IsFormAnswer (Faces file) texts (done lines) → Finishes tells before now lines result
+
+-- where OUT is so, `faces` writes of it the lines of FILE
+abbrev pub KeepsLines : List (List ℕ) → Texts → Bool → List ℕ → List ℕ → Status → Type 0
+KeepsLines words texts tells before now result =
+    (options : Options) (bound : ℤ) (file out : List ℕ) → form_of words ≡ Some (Faces out) → IsWrittenFor options bound texts file out → FacesAlike options texts file tells before now result
 
 -- ---- the forms that make a coverage
 

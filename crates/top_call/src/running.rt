@@ -7,9 +7,9 @@ ghost use Rattle.top_call.specs.Requests.{bytes_of, form, IsWithinLimits};
 ghost use Rattle.top_call.specs.Reading.{limit_of, named, texts_read, AreHeld, AreShort, IsFirstPast};
 ghost use Rattle.top_call.specs.Messages.{message_of};
 ghost use Rattle.top_call.specs.Verdicts.{verdict_line};
-ghost use Rattle.top_call.specs.Answers.{verdict_status, IsWorkAnswer, IsFormAnswer, IsAnswer};
+ghost use Rattle.top_call.specs.Answers.{Answer, verdict_status, IsWorkAnswer, IsFormAnswer, IsAnswer};
 ghost use Rattle.top_call.specs.Endings.{IsMapStatus, IsWritten, IsWorkStatus, IsSilent, ReadsTexts, names_of, Replies, Settles, Notes};
-ghost use Rattle.top_call.specs.Headline.{Headline, Completes, Judges, IsMaking, IsMakingStatus, Makes};
+ghost use Rattle.top_call.specs.Headline.{Headline, Completes, Judges, ReachesYes, KeepsLines, IsMaking, IsMakingStatus, Makes};
 
 use crate::checking::verdict_on;
 use crate::demo::{coverage, demo};
@@ -223,6 +223,10 @@ pub fn run<I: Inputs, O: Sink, N: Sink>(
     ensures answers { IsTrue I.tells → Settles (IsAnswer (bytes_of words.now) (I.texts inputs.old))
         O.tells (O.written out.old) (O.written out.new) result }
 
+    // There is one answer, so each status comes exactly where the answer has it.
+    ensures exactly { IsTrue I.tells → (a : Answer) → IsAnswer (bytes_of words.now) (I.texts inputs.old) a
+        → Settles (λ b. b ≡ a) O.tells (O.written out.old) (O.written out.new) result }
+
     // What is written of a text that is simplified is faithful to the text.
     ensures headline { IsTrue I.tells → IsTrue O.tells → Headline (bytes_of words.now) (I.texts inputs.old) (O.written out.old) (O.written out.new) result }
 
@@ -233,6 +237,16 @@ pub fn run<I: Inputs, O: Sink, N: Sink>(
     // Where besides OUT and CERT are held and short, `check` says yes or why not, or memory was wanting.
     ensures judges { IsTrue I.tells → ¬ (Rose (I.faults inputs.old) (I.faults inputs.new)) → ¬ (Rose (O.faults out.old) (O.faults out.new))
         → Judges (bytes_of words.now) (I.texts inputs.old) result }
+
+    // Where OUT and CERT are what `simplify` and `layers` answer to FILE with the same options and bound, `check` writes `yes`,
+    // or memory was wanting. What they answer is short enough.
+    ensures reaches_yes { IsTrue I.tells → ¬ (Rose (I.faults inputs.old) (I.faults inputs.new)) → ¬ (Rose (O.faults out.old) (O.faults out.new))
+        → ReachesYes (bytes_of words.now) (I.texts inputs.old) O.tells (O.written out.old) (O.written out.new) result }
+
+    // Where OUT is what `simplify` answers to FILE, and short enough, `faces` writes of OUT the lines that it answers to FILE, or
+    // memory was wanting.
+    ensures keeps_lines { IsTrue I.tells → ¬ (Rose (I.faults inputs.old) (I.faults inputs.new)) → ¬ (Rose (O.faults out.old) (O.faults out.new))
+        → KeepsLines (bytes_of words.now) (I.texts inputs.old) O.tells (O.written out.old) (O.written out.new) result }
 
     // A coverage is made and thinned, or a write failed, or memory was wanting.
     ensures made { Makes (bytes_of words.now) result }
