@@ -13,7 +13,7 @@ use Rattle.arc_map.specs.Chains.{Chain}
 use Rattle.arc_map.specs.Edges.{EachOf}
 use Rattle.arc_map.specs.Records.{Record}
 use Rattle.arc_map.specs.Work.{work_of, chain_in}
-use Rattle.arc_map.proofs.Cutting.{distinct_places}
+use Rattle.arc_map.proofs.Cutting.{distinct_places, pairs_of_run}
 use Rattle.monotone_split.proofs.Cuts.{parts_of_arc, parts_of_arcs}
 use Rattle.monotone_split.proofs.Finish.{taken, left_over}
 use Rattle.monotone_split.proofs.WalkParts.{to_places, from_places}
@@ -32,7 +32,7 @@ each_apart v (w ∷ ws) apart =
     (apart 0 1 v (omega arith) (omega arith), each_apart w ws (λ i j d before within. apart (suc i) (suc j) d (omega arith) (omega arith)))
 
 run_apart : (frame : Frame) (v : Vertex) (ws : List Vertex) → IsMonotone frame v.place (places ws) → AreApart v ws
-run_apart frame v ws runs = from_places (λ p q. p ≢ q) v ws (each_apart v.place (places ws) (distinct_places frame v.place (places ws) runs))
+run_apart frame v ws runs = from_places (λ p q. p ≢ q) v ws (each_apart v.place (places ws) (distinct_places frame (v.place ∷ places ws) (pairs_of_run frame v.place (places ws) runs)))
 
 apart_joined : (v : Vertex) (ws us : List Vertex) → AreApart v ws → AreApart (end_of v ws) us → AreApart v (ws ++ us)
 apart_joined v [] us first later = later

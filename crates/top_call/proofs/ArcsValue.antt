@@ -1,6 +1,6 @@
 -- The value of `arcs` stands in the text of its topology.
 use Rattle.std.specs.Prelude.{codes, if◌then◌else◌, ◌⊎◌}
-use Rattle.std.proofs.Common.{◌≡◌, ◌∙◌, ℕ, ◌+◌, ◌≤◌, Bool, true, false, bytes_eq, List, length, Ok, refl, sym, ap, subst, inl, inr}
+use Rattle.std.proofs.Common.{◌≡◌, ◌∙◌, ℕ, ◌+◌, ◌≤◌, Bool, true, false, bytes_eq, List, length, Ok, sym, ap, subst, inl, inr}
 use Rattle.json_scan.specs.Tree.{Extent, extent_of, Tree, NullAt, FalseAt, TrueAt, NumberAt, TextAt, ListAt, ObjectAt, Entries, NoEntries, NextEntry, NodeIs, EntriesAre, after_at, Lookup, NowhereIn, OnceIn, TwiceIn, named, at_second, at_first, lookup, document_tree}
 use Rattle.json_scan.specs.View.{ScanView}
 use Rattle.json_scan.proofs.Nodes.{tree-node}

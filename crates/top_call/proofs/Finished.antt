@@ -13,9 +13,9 @@ use Rattle.top_call.specs.Words.{Form, Simplify, Layers, Check, Faces, form_of}
 use Rattle.top_call.specs.Requests.{IsWithinLimits}
 use Rattle.top_call.specs.Reading.{Named, named, Read, AreRead}
 use Rattle.top_call.specs.Verdicts.{verdict_line}
-use Rattle.top_call.specs.Answers.{Answer, done, told, refused, plain, IsSimplified, IsCertified, IsFaced, IsMapAnswer, Written, Told, IsWorkAnswer, IsFormAnswer, NotHeld, TooLong, Worked, IsAnswerBy, IsAnswer}
+use Rattle.top_call.specs.Answers.{Answer, done, plain, IsSimplified, IsCertified, IsFaced, IsMapAnswer, Written, Told, IsWorkAnswer, IsFormAnswer, NotHeld, TooLong, Worked, IsAnswerBy, IsAnswer}
 use Rattle.top_call.specs.Endings.{Settles}
-use Rattle.top_call.specs.Headline.{Finishes, AreWrittenFor, ReachesYes, IsWrittenFor, FacesAlike, KeepsLines}
+use Rattle.top_call.specs.Headline.{Finishes, AreWrittenFor, ReachesYes, IsWrittenFor, KeepsLines}
 use Rattle.top_call.proofs.AnswerOfWords.{form_answer_is_one}
 use Rattle.top_call.proofs.FacesAlike.{plain_lines, lines_written}
 use Rattle.top_call.proofs.OneAnswer.{written_by}

@@ -1,9 +1,8 @@
 -- The certificate of a run is at most 2^26 bytes.
-use Rattle.std.proofs.Common.{◌≡◌, ◌∙◌, ℕ, suc, ℤ, ◌+◌, ◌-◌, ◌*◌, ◌<◌, ◌≤◌, ◌^◌, Bool, true, false, List, [], ◌∷◌, ◌++◌, All, inl, inr, map, length, drop, sum_by, refl, sym, ap, subst, arith}
+use Rattle.std.proofs.Common.{◌≡◌, ◌∙◌, ℕ, suc, ℤ, ◌+◌, ◌*◌, ◌<◌, ◌≤◌, ◌^◌, Bool, true, false, List, [], ◌∷◌, All, inl, inr, map, length, drop, sum_by, refl, sym, ap, subst, arith}
 use Rattle.std.specs.List.{AllByRecursion}
 use Rattle.std.proofs.lemmas.List.{get_or_default, length-append}
 use Rattle.std.proofs.lemmas.List.Elements.{All-nil, All-cons, All-head, All-tail}
-use Rattle.std.proofs.lemmas.List.FromFn.{length-map-range_with_len}
 use Rattle.std.proofs.lemmas.List.Sums.{get_or-le-sum_by, sum_by-cons}
 use Rattle.grid_exact.specs.Paths.{LeadsTo, IsPath, AreLayers}
 use Rattle.grid_exact.proofs.Certificates.{LeadsTo-below}
@@ -12,17 +11,17 @@ use Rattle.arc_map.specs.Arranged.{arc_at}
 use Rattle.arc_map.specs.Chains.{Chain, chain_at}
 use Rattle.arc_map.specs.Paths.{vertices_at}
 use Rattle.arc_map.specs.Records.{Record}
-use Rattle.arc_map.specs.Work.{Work, work_of, thinned_work, chain_in, vertex_in, LiesInArc}
+use Rattle.arc_map.specs.Work.{Work, work_of, thinned_work, chain_in, LiesInArc}
 use Rattle.arc_map.specs.declared.refs.ChainRef.{ChainRef}
 use Rattle.arc_map.proofs.Cutting.{IsRun, runs_of_arcs}
 use Rattle.arc_map.proofs.Rising.{rising-length}
-use Rattle.cert_format.specs.Certificate.{further, record_text, certificate_text, content}
+use Rattle.cert_format.specs.Certificate.{further, record_text, content}
 use Rattle.chain_replace.specs.Run.{Terms, IsAllowedIn, last_of, IsRecordOf, AreReplaced, IsOutcome}
 use Rattle.top_call.specs.declared.forms.Options.{Options}
 use Rattle.top_call.specs.Answers.{IsCertified, terms_of, version_of}
 use Rattle.top_call.specs.Maps.{AreHeldBeside, scales_of}
 use Rattle.top_call.specs.Requests.{IsBound, AreWeights}
-use Rattle.top_call.proofs.CertificateLengths.{IsOfEdges, record_is_short, HasShortParts, certificate_fits}
+use Rattle.top_call.proofs.CertificateLengths.{IsOfEdges, record_is_short, certificate_fits}
 use Rattle.top_call.proofs.ChainEdges.{edge_count, edges_of_arcs}
 use Rattle.top_call.proofs.Entries.{AreAsRead, left_as_read, later_as_read}
 use Rattle.top_call.proofs.ReadMaps.{read_map_is_map}

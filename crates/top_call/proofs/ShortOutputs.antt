@@ -1,5 +1,5 @@
 -- What a run writes of a text within its limit is within the limit of OUT.
-use Rattle.std.proofs.Common.{◌≡◌, ◌∙◌, ℕ, zero, suc, ℤ, pos, ◌*ℤ◌, ◌+◌, ◌<◌, ◌≤◌, ◌^◌, List, [], ◌∷◌, All, length, get_or, sum_by, refl, sym, ap, subst, arith}
+use Rattle.std.proofs.Common.{◌≡◌, ℕ, suc, ℤ, ◌<◌, ◌≤◌, ◌^◌, List, [], ◌∷◌, All, length, get_or, sum_by, ap, subst, arith}
 use Rattle.std.proofs.lemmas.List.Sums.{sum_by-cons}
 use Rattle.grid_exact.specs.Geometry.{Place, IsGridNumber, IsOnGrid}
 use Rattle.grid_exact.specs.Weights.{StaysOnGrid}

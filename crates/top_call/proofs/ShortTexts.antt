@@ -1,17 +1,15 @@
 -- The text with the arcs of the outcome of a run is at most 2^27 bytes.
 use Rattle.std.specs.Prelude.{codes}
 use Rattle.std.specs.Fmt.{signed_decimal}
-use Rattle.std.proofs.Common.{◌≡◌, ◌∙◌, ℕ, suc, ℤ, ◌+◌, ◌-◌, ◌*◌, ◌<◌, ◌≤◌, ◌^◌, Bool, true, false, List, [], ◌∷◌, ◌++◌, All, map, length, get_or, take, drop, sum_by, refl, sym, ap, subst, arith, length-drop}
+use Rattle.std.proofs.Common.{◌≡◌, ℕ, suc, ◌+◌, ◌*◌, ◌≤◌, ◌^◌, Bool, true, false, List, [], ◌∷◌, ◌++◌, All, map, length, take, drop, sum_by, refl, ap, arith, length-drop}
 use Rattle.std.proofs.lemmas.Int.{ints}
 use Rattle.std.proofs.lemmas.List.{length-append, length-take-le}
 use Rattle.std.proofs.lemmas.List.Elements.{All-nil, All-cons, All-head, All-tail}
 use Rattle.std.proofs.lemmas.List.Sums.{sum_by-cons}
 use Rattle.grid_exact.specs.Geometry.{Place, IsOnGrid}
 use Rattle.arc_map.specs.Map.{Map, IsArc}
-use Rattle.arc_map.specs.Arranged.{arc_at}
 use Rattle.topo_writer.specs.Texts.{behind_commas, list_text, position_text, IsDifference}
-use Rattle.topo_writer.specs.ArcsText.{difference, differences, coded_positions, following, arc_text, arcs_text_of}
-use Rattle.topo_writer.specs.Fits.{FitsIn}
+use Rattle.topo_writer.specs.ArcsText.{difference, differences, coded_positions, arc_text, arcs_text_of}
 use Rattle.topo_writer.specs.Splice.{spliced}
 use Rattle.topo_writer.proofs.Lengths.{short_difference}
 use Rattle.top_call.proofs.ChainEdges.{arc_is_some}
