@@ -1,0 +1,14 @@
+pub mod Booleans
+pub mod Cancelling
+pub mod Touching
+pub mod Taking
+pub mod Using
+pub mod Balancing
+pub mod Popping
+pub mod Marks
+pub mod Turned
+pub mod Listing
+pub mod Taken
+pub mod Entries
+pub mod Staging
+pub mod Whole

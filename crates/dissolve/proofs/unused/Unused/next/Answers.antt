@@ -1,0 +1,34 @@
+-- The arc that is taken is the next one.
+use Rattle.std.proofs.Common.{◌<◌, All, sym, subst}
+use Rattle.dissolve.proofs.Balancing.{told-apart, told-same}
+use Rattle.dissolve.proofs.Staging.{next-step}
+use Rattle.dissolve.proofs.Taken.{taken-known, taken-least, taken-left, taken-unused, none-left}
+use Rattle.std.proofs.Common.{◌∙◌}
+use Rattle.dissolve.specs.Unused.{arcs_at}
+use Rattle.dissolve.proofs.unused.Unused.next.Goals as goal
+
+pub take_at-requires-clause-known : goal.take_at-requires-clause-known
+take_at-requires-clause-known c = λ p. subst (λ n. All (λ k. k < n) (arcs_at c.args.self.now p)) (sym c.requires.count) (c.requires.each p).known
+
+pub first_position-requires : goal.first_position-requires
+first_position-requires c = taken-known c.args.map.now c.args.self.now c.take_at.new.self c.args.at c.in-Some.arc c.requires c.in-Some.ensures
+
+pub returns-in-Some-clause-next : goal.returns-in-Some-clause-next
+returns-in-Some-clause-next c =
+    let first = c.first_position.ensures in
+    next-step c.args.map.now _ c.args.at (record { arc = c.in-Some.arc; forwards = c.eq.result })
+    (taken-least c.args.map.now c.args.self.now c.take_at.new.self c.args.at c.in-Some.arc c.requires c.in-Some.ensures)
+    (λ tells. sym first ∙ told-same c.first_position.result c.args.at c.eq.result c.eq.ensures tells)
+    (λ tells begins. told-apart c.first_position.result c.args.at c.eq.result c.eq.ensures tells (first ∙ begins))
+
+pub returns-in-Some-clause-known : goal.returns-in-Some-clause-known
+returns-in-Some-clause-known c = taken-known c.args.map.now c.args.self.now c.take_at.new.self c.args.at c.in-Some.arc c.requires c.in-Some.ensures
+
+pub returns-in-Some-clause-unused : goal.returns-in-Some-clause-unused
+returns-in-Some-clause-unused c = taken-unused c.args.map.now c.args.self.now c.take_at.new.self c.args.at c.in-Some.arc c.requires c.in-Some.ensures
+
+pub returns-in-Some-clause-left : goal.returns-in-Some-clause-left
+returns-in-Some-clause-left c = taken-left c.args.self.now c.take_at.new.self c.args.at c.in-Some.arc c.in-Some.ensures
+
+pub returns-in-None-clause-next : goal.returns-in-None-clause-next
+returns-in-None-clause-next c = none-left c.args.map.now c.args.self.now c.args.at c.requires c.in-None.ensures
