@@ -9,3 +9,6 @@ mod walk;
 
 pub use rings::Rings;
 pub use walk::border;
+
+#[cfg(test)]
+mod tests;
