@@ -12,7 +12,7 @@ use Rattle.face_parity.specs.Parities.{pass_oddly}
 use Rattle.face_parity.proofs.Counting.{differ-false}
 use Rattle.face_parity.proofs.Same.{in-later}
 use Rattle.dissolve.specs.Border.{arc_of, first_of, last_of, start_of, end_of, EndsAt, IsNext, without}
-use Rattle.dissolve.specs.Walk.{does_touch, IsBalanced, IsEven}
+use Rattle.dissolve.specs.Walk.{does_touch, IsEven}
 use Rattle.dissolve.proofs.Booleans.{differ-between, differ-comm, differ-self}
 use Rattle.dissolve.proofs.Taking.{AreOnce, pass-without}
 
@@ -55,6 +55,11 @@ touch-by_reference m q (pos k) = refl
 touch-by_reference m q (negsuc k) = differ-comm (is_same (first_of m k) q) (is_same (last_of m k) q)
 
 -- ---- a ring begins, goes on and ends
+
+-- each position is an even number of times an end of the arcs that are left, but for the positions where a ring began and
+-- to which it came
+abbrev pub IsBalanced : Map → Place → Place → List ℕ → Type 0
+IsBalanced m start p unused = (q : Place) → pass_oddly (does_touch m q) unused ≡ differ (is_same start q) (is_same p q)
 
 pub balanced-first : (m : Map) (unused : List ℕ) (arc : ℕ) → AreOnce unused → Contains unused arc → IsEven m unused → IsBalanced m (first_of m arc) (last_of m arc) (without arc unused)
 balanced-first m unused arc once held even q =

@@ -8,9 +8,9 @@ use Rattle.grid_exact.specs.Geometry.{Place}
 use Rattle.arc_map.specs.Map.{Map}
 use Rattle.dissolve.specs.Border.{arc_of, first_of, last_of, end_of, EndsAt, IsLeast, IsNext, IsRest, IsRing, AreRings, without, without_all}
 use Rattle.dissolve.specs.Unused.{marked}
-use Rattle.dissolve.specs.Walk.{reference, references, rings_of, IsBalanced, IsEven, IsStage}
+use Rattle.dissolve.specs.Walk.{reference, references, rings_of, IsEven, IsStage}
 use Rattle.dissolve.specs.declared.step.Step.{Step}
-use Rattle.dissolve.proofs.Balancing.{balanced-first, balanced-last, balanced-next}
+use Rattle.dissolve.proofs.Balancing.{IsBalanced, balanced-first, balanced-last, balanced-next}
 use Rattle.dissolve.proofs.Marks.{marked-is}
 use Rattle.dissolve.proofs.Taking.{AreOnce, still-among}
 use Rattle.dissolve.proofs.Using.{left-among}

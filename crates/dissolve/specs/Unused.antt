@@ -30,12 +30,16 @@ pub record AreUnused (m : Map) (u : Unused) : Type 0 where
 abbrev pub unused_in : Unused → List ℕ
 unused_in u = marked u.marks.items
 
+-- none of these arcs is marked
+abbrev pub AreUnmarked : List Bool → List ℕ → Type 0
+AreUnmarked marks arcs = All (λ k. get_or marks k false ≡ false) arcs
+
 -- the arc is the last of those before that is marked, and those after are the ones before it
 pub record IsPopped (marks : List Bool) (before after : List ℕ) (arc : ℕ) : Type 0 where
   pub dropped : List ℕ
   pub is : before ≡ after ++ arc ∷ dropped
   pub marked : get_or marks arc false ≡ true
-  pub unmarked : All (λ k. get_or marks k false ≡ false) dropped
+  pub unmarked : AreUnmarked marks dropped
 
 -- the arc was taken away, and from the list of the place, with those behind it
 pub record IsTaken (before after : Unused) (place : Place) (arc : ℕ) : Type 0 where
@@ -52,5 +56,6 @@ added_at q arc p arcs = if is_same p q then arcs ++ arc ∷ [] else arcs
 pub record IsAddedAt (m : Map) (before after : Unused) (arc : ℕ) : Type 0 where
   pub marks : after.marks.items ≡ before.marks.items
   pub lists : length after.lists.items ≡ length after.places.keys
-  pub marked : get_or before.marks.items arc false ≡ true → (p : Place) → arcs_at after p ≡ added_at (last_of m arc) arc p (added_at (first_of m arc) arc p (arcs_at before p))
+  pub marked : get_or before.marks.items arc false ≡ true → (p : Place) →
+      arcs_at after p ≡ added_at (last_of m arc) arc p (added_at (first_of m arc) arc p (arcs_at before p))
   pub unmarked : get_or before.marks.items arc false ≡ false → (p : Place) → arcs_at after p ≡ arcs_at before p

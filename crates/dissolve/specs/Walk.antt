@@ -23,11 +23,6 @@ rings_of rings = map (λ ring. references ring.items) rings
 abbrev pub does_touch : Map → Place → ℕ → Bool
 does_touch m q arc = differ (is_same (first_of m arc) q) (is_same (last_of m arc) q)
 
--- each position is an even number of times an end of the arcs that are left, but for the positions where a ring began and
--- to which it came
-abbrev pub IsBalanced : Map → Place → Place → List ℕ → Type 0
-IsBalanced m start p unused = (q : Place) → pass_oddly (does_touch m q) unused ≡ differ (is_same start q) (is_same p q)
-
 -- each position is an even number of times an end of these arcs
 abbrev pub IsEven : Map → List ℕ → Type 0
 IsEven m arcs = (q : Place) → pass_oddly (does_touch m q) arcs ≡ false

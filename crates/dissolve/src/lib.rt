@@ -1,4 +1,5 @@
-//! The border of chosen polygons of a map: closed lines of the arcs that they name an odd number of times in sum.
+//! The border of chosen polygons of a map: closed lines of the arcs that they name an odd number of
+//! times in sum.
 #![tactic(auto)]
 
 mod odd;

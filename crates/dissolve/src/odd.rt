@@ -8,7 +8,8 @@ ghost use Rattle.dissolve.specs.Unused.{marked};
 use arc_map::ArcMap;
 use std::alloc::{AllocError, Global};
 
-// For each arc of the map whether it has an edge and these polygons name it an odd number of times in sum.
+// For each arc of the map whether it has an edge and these polygons name it an odd number of times
+// in sum.
 pub(crate) fn odd_marks(
     alloc: Global,
     map: &ArcMap,
@@ -30,7 +31,8 @@ pub(crate) fn odd_marks(
 fn turn_all(marks: &mut Vec<bool>, arcs: &[u32])
     requires { All (λ arc. arc < length marks.old.items) arcs.now }
     ensures count { length marks.new.items ≡ length marks.old.items }
-    ensures odd { (k : ℕ) → get_or marks.new.items k false ≡ differ (get_or marks.old.items k false) (pass_oddly (λ arc. arc == k) arcs.now) }
+    ensures odd { (k : ℕ) → get_or marks.new.items k false
+        ≡ differ (get_or marks.old.items k false) (pass_oddly (λ arc. arc == k) arcs.now) }
 {
     for arc in arcs {
         turn(marks, *arc);
@@ -41,7 +43,8 @@ fn turn_all(marks: &mut Vec<bool>, arcs: &[u32])
 fn turn(marks: &mut Vec<bool>, arc: u32)
     requires { arc < length marks.old.items }
     ensures count { length marks.new.items ≡ length marks.old.items }
-    ensures odd { (k : ℕ) → get_or marks.new.items k false ≡ differ (get_or marks.old.items k false) (arc == k) }
+    ensures odd { (k : ℕ) → get_or marks.new.items k false
+        ≡ differ (get_or marks.old.items k false) (arc == k) }
 {
     let odd = marks[arc as usize];
     marks[arc as usize] = !odd;
@@ -51,7 +54,8 @@ fn turn(marks: &mut Vec<bool>, arc: u32)
 fn clear_edgeless(marks: &mut Vec<bool>, map: &ArcMap)
     requires { length marks.old.items ≡ length map.now.arcs }
     ensures count { length marks.new.items ≡ length marks.old.items }
-    ensures left { (k : ℕ) → get_or marks.new.items k false ≡ (has_edge map.now k && get_or marks.old.items k false) }
+    ensures left { (k : ℕ) → get_or marks.new.items k false
+        ≡ (has_edge map.now k && get_or marks.old.items k false) }
 {
     for arc in 0..map.arc_count() {
         clear_if_edgeless(marks, map, arc);
@@ -63,8 +67,10 @@ fn clear_if_edgeless(marks: &mut Vec<bool>, map: &ArcMap, arc: u32)
     requires count { length marks.old.items ≡ length map.now.arcs }
     requires arc { arc < length map.now.arcs }
     ensures count { length marks.new.items ≡ length marks.old.items }
-    ensures here { get_or marks.new.items arc false ≡ (has_edge map.now arc && get_or marks.old.items arc false) }
-    ensures other { (k : ℕ) → k ≢ arc → get_or marks.new.items k false ≡ get_or marks.old.items k false }
+    ensures here { get_or marks.new.items arc false
+        ≡ (has_edge map.now arc && get_or marks.old.items arc false) }
+    ensures other { (k : ℕ) → k ≢ arc →
+        get_or marks.new.items k false ≡ get_or marks.old.items k false }
 {
     if map.arc(arc).len() < 2 {
         marks[arc as usize] = false;

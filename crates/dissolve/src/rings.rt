@@ -11,8 +11,8 @@ use std::alloc::{AllocError, Global};
 use std::marker::Model;
 use topo_writer::write_number;
 
-/// Closed lines of arcs. Contracts see for each the list of its arc references, as TopoJSON numbers them: `k` for
-/// arc `k` forwards, `-1 - k` for arc `k` backwards.
+/// Closed lines of arcs. Contracts see for each the list of its arc references, as TopoJSON numbers
+/// them: `k` for arc `k` forwards, `-1 - k` for arc `k` backwards.
 #[derive(Drop)]
 pub struct Rings {
     rings: Vec<Vec<Step>>,
@@ -35,9 +35,9 @@ impl Rings {
         Rings { rings }
     }
 
-    /// The text of the rings as a geometry (TopoJSON 1.0): `{"type":"MultiLineString","arcs":`, the list of the
-    /// rings, each the list of its references in decimals, and `}`; there is no white space. The only error is
-    /// want of memory.
+    /// The text of the rings as a geometry (TopoJSON 1.0): `{"type":"MultiLineString","arcs":`, the
+    /// list of the rings, each the list of its references in decimals, and `}`; there is no white
+    /// space. The only error is want of memory.
     pub fn text(&self, alloc: Global) -> Result<Vec<u8>, NoMemory>
         ensures { IfOk result (λ text. text.items ≡ rings_text self.now) }
     {
@@ -59,7 +59,8 @@ fn write_text(out: &mut Vec<u8>, rings: &[Vec<Step>]) -> Result<(), AllocError>
 
 // Adds the list of the rings.
 fn write_rings(out: &mut Vec<u8>, rings: &[Vec<Step>]) -> Result<(), AllocError>
-    ensures { OnOk result (out.new.items ≡ out.old.items ++ list_text (map ring_text (rings_of rings.now))) }
+    ensures { OnOk result (out.new.items
+        ≡ out.old.items ++ list_text (map ring_text (rings_of rings.now))) }
 {
     out.push(b'[')?;
     for (k, ring) in rings.iter().enumerate() {

@@ -1,5 +1,6 @@
 //! Arcs in one of their directions.
 ghost use Rattle.std.specs.Prelude.{◌≡◌, ◌<◌, length};
+ghost use Rattle.arc_map.specs.Ends.{is_same};
 ghost use Rattle.dissolve.specs.Border.{first_of, last_of, end_of};
 ghost use Rattle.dissolve.specs.Walk.{reference};
 
@@ -33,6 +34,14 @@ impl Step {
             first_position(map, self.arc)
         }
     }
+}
+
+// Whether the arc begins at the position.
+pub(crate) fn begins_at(map: &ArcMap, arc: u32, position: Point) -> bool
+    requires { arc < length map.now.arcs }
+    ensures { result ≡ is_same (first_of map.now arc) position }
+{
+    first_position(map, arc) == position
 }
 
 // The arc's first position.

@@ -1,20 +1,20 @@
 //! The odd arcs that no ring has yet.
-ghost use Rattle.std.specs.Prelude.{◌≡◌, ◌≢◌, ◌<◌, ◌∷◌, ◌++◌, [], Some, if◌then◌else◌, ℕ, false, true, IfOk, IfSome, OnOk, MatchOption, All, Contains, get_or, length, position, set};
+ghost use Rattle.std.specs.Prelude.{◌≡◌, ◌<◌, Some, ℕ, false, IfOk, IfSome, OnOk, MatchOption, All, Contains, get_or, length, position};
 ghost use Rattle.grid_exact.specs.Geometry.{Place};
 ghost use Rattle.arc_map.specs.Ends.{is_same};
 ghost use Rattle.dissolve.specs.Border.{EndsAt, IsNext, without};
-ghost use Rattle.dissolve.specs.Unused.{AreUnused, IsPopped, IsTaken, IsAddedAt, arcs_at, unused_in};
+ghost use Rattle.dissolve.specs.Unused.{AreUnmarked, AreUnused, IsAddedAt, IsPopped, IsTaken, added_at, arcs_at, unused_in};
 ghost use Rattle.dissolve.specs.Walk.{reference};
 
-use crate::step::{Step, first_position, last_position};
+use crate::step::{Step, begins_at, first_position, last_position};
 use arc_map::ArcMap;
 use grid_exact::Point;
 use indexmap::IndexSet;
 use smallvec::SmallVec;
 use std::alloc::{AllocError, Global};
 
-// The arcs that are left, as marks, and for each position the arcs with an end there, falling. Of these the last are
-// dropped once they are used, so that each is looked at once.
+// The arcs that are left, as marks, and for each position the arcs with an end there, falling. Of these
+// the last are dropped once they are used, so that each is looked at once.
 #[derive(Drop)]
 pub(crate) struct Unused {
     marks: Vec<bool>,
@@ -59,7 +59,8 @@ impl Unused {
         requires { length self.old.lists.items ≡ length self.old.places.keys }
         ensures marks { OnOk result (self.new.marks.items ≡ self.old.marks.items) }
         ensures count { OnOk result (length self.new.lists.items ≡ length self.new.places.keys) }
-        ensures lists { OnOk result ((p : Place) → arcs_at self.new p ≡ (if is_same p place then arcs_at self.old p ++ arc ∷ [] else arcs_at self.old p)) }
+        ensures lists { OnOk result ((p : Place) →
+            arcs_at self.new p ≡ added_at place arc p (arcs_at self.old p)) }
     {
         let at = self.index_of(alloc, place)?;
         self.lists[at].push(arc)?;
@@ -70,7 +71,8 @@ impl Unused {
     fn index_of(&mut self, alloc: Global, place: Point) -> Result<usize, AllocError>
         requires { length self.old.lists.items ≡ length self.old.places.keys }
         ensures marks { OnOk result (self.new.marks.items ≡ self.old.marks.items) }
-        ensures index { IfOk result (λ at. position (is_same place) self.new.places.keys ≡ Some at) }
+        ensures index { IfOk result (λ at.
+            position (is_same place) self.new.places.keys ≡ Some at) }
         ensures within { IfOk result (λ at. at < length self.new.lists.items) }
         ensures count { OnOk result (length self.new.lists.items ≡ length self.new.places.keys) }
         ensures lists { OnOk result ((p : Place) → arcs_at self.new p ≡ arcs_at self.old p) }
@@ -101,19 +103,22 @@ impl Unused {
         self.marks[arc as usize] = false;
     }
 
-    // The step with which a ring goes on from the position: by the least arc that is left with an end there, forwards
-    // if it begins there. The arc is taken away. None where no arc is left there.
+    // The step with which a ring goes on from the position: by the least arc that is left with an end
+    // there, forwards if it begins there. The arc is taken away. None where no arc is left there.
     pub fn next(&mut self, map: &ArcMap, at: Point) -> Option<Step>
         requires { AreUnused map.now self.old }
-        ensures next { MatchOption result ((k : ℕ) → Contains (unused_in self.old) k → ¬ (EndsAt map.now at k)) (λ step. IsNext map.now (unused_in self.old) at (reference step)) }
+        ensures next { MatchOption result
+            ((k : ℕ) → Contains (unused_in self.old) k → ¬ (EndsAt map.now at k))
+            (λ step. IsNext map.now (unused_in self.old) at (reference step)) }
         ensures known { IfSome result (λ step. step.arc < length map.now.arcs) }
         ensures unused { IfSome result (λ step. AreUnused map.now self.new) }
-        ensures left { IfSome result (λ step. unused_in self.new ≡ without step.arc (unused_in self.old)) }
+        ensures left { IfSome result (λ step.
+            unused_in self.new ≡ without step.arc (unused_in self.old)) }
     {
         match self.take_at(at) {
             Some(arc) => Some(Step {
                 arc,
-                forwards: first_position(map, arc) == at,
+                forwards: begins_at(map, arc, at),
             }),
             None => None,
         }
@@ -122,8 +127,11 @@ impl Unused {
     // The least arc that is left in the list of the place, which is taken away.
     fn take_at(&mut self, place: Point) -> Option<u32>
         requires lists { length self.old.lists.items ≡ length self.old.places.keys }
-        requires known { (p : Place) → All (λ k. k < length self.old.marks.items) (arcs_at self.old p) }
-        ensures { MatchOption result (All (λ k. get_or self.old.marks.items k false ≡ false) (arcs_at self.old place)) (IsTaken self.old self.new place) }
+        requires known { (p : Place) →
+            All (λ k. k < length self.old.marks.items) (arcs_at self.old p) }
+        ensures { MatchOption result
+            (AreUnmarked self.old.marks.items (arcs_at self.old place))
+            (IsTaken self.old self.new place) }
     {
         match self.places.get_index_of(&place) {
             Some(at) => match pop_marked(&mut self.lists[at], &self.marks) {
@@ -141,7 +149,9 @@ impl Unused {
 // The last of the arcs that is marked; it and those behind it are dropped.
 fn pop_marked(arcs: &mut SmallVec<u32, 2>, marks: &[bool]) -> Option<u32>
     requires { All (λ k. k < length marks.now) arcs.old.items }
-    ensures { MatchOption result (All (λ k. get_or marks.now k false ≡ false) arcs.old.items) (IsPopped marks.now arcs.old.items arcs.new.items) }
+    ensures { MatchOption result
+        (AreUnmarked marks.now arcs.old.items)
+        (IsPopped marks.now arcs.old.items arcs.new.items) }
 {
     while let Some(arc) = arcs.pop() {
         if marks[arc as usize] {

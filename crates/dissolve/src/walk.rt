@@ -4,7 +4,7 @@ ghost use Rattle.grid_exact.specs.Geometry.{Place};
 ghost use Rattle.arc_map.specs.Arcs.{is_inside_of};
 ghost use Rattle.topo_reader.specs.Ends.{HasEvenEnds};
 ghost use Rattle.dissolve.specs.Odd.{named_arcs, odd_arcs};
-ghost use Rattle.dissolve.specs.Border.{IsBorder, IsLeast, IsRing, without_all};
+ghost use Rattle.dissolve.specs.Border.{IsBorder, IsRing, without_all};
 ghost use Rattle.dissolve.specs.Closed.{IsClosed, arcs_used};
 ghost use Rattle.dissolve.specs.Unused.{AreUnused, unused_in};
 ghost use Rattle.dissolve.specs.Walk.{references, IsEven, IsStage};
@@ -18,11 +18,12 @@ use std::alloc::{AllocError, Global};
 
 /// The border of the chosen polygons, given by their numbers, as closed lines.
 ///
-/// The odd arcs are those with an edge that the chosen polygons name an odd number of times in sum. A ring begins
-/// with the least odd arc not used yet, forwards. While it is not back at its first position, it goes on with the
-/// least odd arc not used yet that has an end at the position reached: forwards if the arc begins there, else
-/// backwards. Rings are made until no odd arc is left, so each is used once. From every point the edges of the
-/// rings are crossed as often, modulo 2, as those of the chosen polygons in sum. The only error is want of memory.
+/// The odd arcs are those with an edge that the chosen polygons name an odd number of times in sum. A
+/// ring begins with the least odd arc not used yet, forwards. While it is not back at its first
+/// position, it goes on with the least odd arc not used yet that has an end at the position reached:
+/// forwards if the arc begins there, else backwards. Rings are made until no odd arc is left, so each
+/// is used once. From every point the edges of the rings are crossed as often, modulo 2, as those of
+/// the chosen polygons in sum. The only error is want of memory.
 pub fn border(alloc: Global, map: &ArcMap, chosen: &[u32]) -> Result<Rings, NoMemory>
     requires known { All (λ k. k < length map.now.polygons) chosen.now }
     requires even { All (λ k. HasEvenEnds map.now.arcs (get_or map.now.polygons k [])) chosen.now }
@@ -30,9 +31,13 @@ pub fn border(alloc: Global, map: &ArcMap, chosen: &[u32]) -> Result<Rings, NoMe
     // Each arc begins where the one before ends, and each ring ends where it begins.
     ensures closed { IfOk result (All (IsClosed map.now)) }
     // The arcs used are the odd arcs, each once.
-    ensures used { IfOk result (λ rings. (k : ℕ) → Contains (arcs_used rings) k ↔ Contains (odd_arcs map.now chosen.now) k) }
+    ensures used { IfOk result (λ rings. (k : ℕ) →
+        Contains (arcs_used rings) k ↔ Contains (odd_arcs map.now chosen.now) k) }
     ensures once { IfOk result (λ rings. AllPairs (λ j k. j ≢ k) (arcs_used rings)) }
-    ensures crossed { IfOk result (λ rings. (p : Place) → is_inside_of p map.now.arcs (arcs_used rings) ≡ is_inside_of p map.now.arcs (named_arcs map.now chosen.now)) }
+    // From p the rings are crossed as often, modulo 2, as the chosen polygons in sum.
+    ensures crossed { IfOk result (λ rings. (p : Place) →
+        is_inside_of p map.now.arcs (arcs_used rings)
+        ≡ is_inside_of p map.now.arcs (named_arcs map.now chosen.now)) }
 {
     let marks = odd_marks(alloc, map, chosen)?;
     let mut unused = Unused::build(alloc, map, marks)?;
@@ -56,7 +61,9 @@ fn add_ring(
     requires even { IsEven map.now (unused_in unused.old) }
     ensures unused { OnOk result (AreUnused map.now unused.new) }
     ensures even { OnOk result (IsEven map.now (unused_in unused.new)) }
-    ensures stage { OnOk result ((all : List ℕ) → IsStage map.now all rings.old.items (unused_in unused.old) arc → IsStage map.now all rings.new.items (unused_in unused.new) (arc + 1)) }
+    ensures stage { OnOk result ((all : List ℕ) →
+        IsStage map.now all rings.old.items (unused_in unused.old) arc →
+        IsStage map.now all rings.new.items (unused_in unused.new) (arc + 1)) }
 {
     if unused.has(arc) {
         let ring = ring_from(alloc, map, unused, arc)?;
@@ -77,8 +84,12 @@ fn ring_from(
     requires even { IsEven map.now (unused_in unused.old) }
     ensures unused { OnOk result (AreUnused map.now unused.new) }
     ensures even { OnOk result (IsEven map.now (unused_in unused.new)) }
-    ensures left { IfOk result (λ ring. unused_in unused.new ≡ without_all (references ring.items) (unused_in unused.old)) }
-    ensures ring { IfOk result (λ ring. ((k : ℕ) → Contains (unused_in unused.old) k → arc ≤ k) → IsRing map.now (unused_in unused.old) (references ring.items)) }
+    ensures left { IfOk result (λ ring.
+        unused_in unused.new ≡ without_all (references ring.items) (unused_in unused.old)) }
+    // It is a ring of the border if no arc before this one is left.
+    ensures ring { IfOk result (λ ring.
+        ((k : ℕ) → Contains (unused_in unused.old) k → arc ≤ k) →
+        IsRing map.now (unused_in unused.old) (references ring.items)) }
 {
     let first = Step {
         arc,
