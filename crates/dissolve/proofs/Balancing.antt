@@ -4,16 +4,17 @@ use Rattle.std.specs.Prelude.{ℤ, pos, negsuc}
 use Rattle.std.proofs.lemmas.Bool.{cases_Bool, true≢false}
 use Rattle.grid_exact.specs.Geometry.{Place}
 use Rattle.grid_exact.specs.Walks.{differ}
+use Rattle.grid_exact.proofs.Crossings.{differ_false, differ_turned}
+use Rattle.grid_exact.proofs.Walks.{differ_itself}
 use Rattle.arc_map.specs.Map.{Map}
 use Rattle.arc_map.specs.Ends.{is_same}
 use Rattle.arc_map.proofs.Listing.{compared_places}
 use Rattle.arc_map.proofs.Listing.Same.{Yes, No}
 use Rattle.face_parity.specs.Parities.{pass_oddly}
-use Rattle.face_parity.proofs.Counting.{differ-false}
 use Rattle.face_parity.proofs.Same.{in-later}
 use Rattle.dissolve.specs.Border.{arc_of, first_of, last_of, start_of, end_of, EndsAt, IsNext, without}
 use Rattle.dissolve.specs.Walk.{does_touch, IsEven}
-use Rattle.dissolve.proofs.Booleans.{differ-between, differ-comm, differ-self}
+use Rattle.dissolve.proofs.Booleans.{differ-between}
 use Rattle.dissolve.proofs.Taking.{AreOnce, pass-without}
 
 pub same-itself : (p : Place) → is_same p p ≡ true
@@ -52,7 +53,7 @@ touched-ends m q arc touches = elim (compared_places (first_of m arc) q) [
 -- in either direction an arc touches where it starts and where it ends
 touch-by_reference : (m : Map) (q : Place) (r : ℤ) → does_touch m q (arc_of r) ≡ differ (is_same (start_of m r) q) (is_same (end_of m r) q)
 touch-by_reference m q (pos k) = refl
-touch-by_reference m q (negsuc k) = differ-comm (is_same (first_of m k) q) (is_same (last_of m k) q)
+touch-by_reference m q (negsuc k) = differ_turned (is_same (first_of m k) q) (is_same (last_of m k) q)
 
 -- ---- a ring begins, goes on and ends
 
@@ -65,7 +66,7 @@ pub balanced-first : (m : Map) (unused : List ℕ) (arc : ℕ) → AreOnce unuse
 balanced-first m unused arc once held even q =
     pass-without (does_touch m q) arc unused once held
     ∙ ap (differ (does_touch m q arc)) (even q)
-    ∙ differ-false (does_touch m q arc)
+    ∙ differ_false (does_touch m q arc)
 
 pub balanced-next : (m : Map) (start p : Place) (unused : List ℕ) (r : ℤ) → AreOnce unused → IsNext m unused p r → IsBalanced m start p unused → IsBalanced m start (end_of m r) (without (arc_of r) unused)
 balanced-next m start p unused r once next balanced q =
@@ -76,7 +77,7 @@ balanced-next m start p unused r once next balanced q =
     ∙ differ-between (is_same p q) (is_same (end_of m r) q) (is_same start q)
 
 pub balanced-last : (m : Map) (start p : Place) (unused : List ℕ) → p ≡ start → IsBalanced m start p unused → IsEven m unused
-balanced-last m start p unused same balanced q = balanced q ∙ ap (λ s. differ (is_same start q) (is_same s q)) same ∙ differ-self (is_same start q)
+balanced-last m start p unused same balanced q = balanced q ∙ ap (λ s. differ (is_same start q) (is_same s q)) same ∙ differ_itself (is_same start q)
 
 pub goes-on : (m : Map) (start p : Place) (unused : List ℕ) → p ≢ start → IsBalanced m start p unused → (arc : ℕ) × Contains unused arc × EndsAt m p arc
 goes-on m start p unused apart balanced =

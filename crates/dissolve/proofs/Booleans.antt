@@ -2,16 +2,7 @@
 use Rattle.std.proofs.Common.{◌≡◌, ◌∙◌, ℕ, zero, suc, ◌+◌, Bool, true, false, refl, sym, ap, arith}
 use Rattle.std.specs.Prelude.{not, ◌&&◌}
 use Rattle.grid_exact.specs.Walks.{is_odd, differ}
-
-pub differ-self : (a : Bool) → differ a a ≡ false
-differ-self true = refl
-differ-self false = refl
-
-pub differ-comm : (a b : Bool) → differ a b ≡ differ b a
-differ-comm true true = refl
-differ-comm true false = refl
-differ-comm false true = refl
-differ-comm false false = refl
+use Rattle.grid_exact.proofs.Walks.{differ_itself}
 
 -- what is counted twice drops out
 pub differ-between : (a b c : Bool) → differ (differ a b) (differ c a) ≡ differ c b
@@ -52,7 +43,7 @@ odd-sum (suc a) b =
     not-differ false y = refl
 
 not-odd : (n : ℕ) → is_odd (n + n) ≡ false
-not-odd n = odd-sum n n ∙ differ-self (is_odd n)
+not-odd n = odd-sum n n ∙ differ_itself (is_odd n)
 
 pub odd-even : (n half : ℕ) → n ≡ half + half → is_odd n ≡ false
 odd-even n half is = ap is_odd is ∙ not-odd half

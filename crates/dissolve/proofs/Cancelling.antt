@@ -5,9 +5,9 @@ use Rattle.std.specs.List.{range_with_len}
 use Rattle.std.proofs.lemmas.Bool.{cases_eq, eq-eqb, ne_eqb}
 use Rattle.std.proofs.lemmas.List.Elements.{All-append, All-head, All-nil, All-tail}
 use Rattle.grid_exact.specs.Walks.{differ}
+use Rattle.grid_exact.proofs.Crossings.{differ_false}
 use Rattle.arc_map.specs.Map.{Map, IsMap}
 use Rattle.face_parity.specs.Parities.{pass_oddly}
-use Rattle.face_parity.proofs.Counting.{differ-false}
 use Rattle.face_parity.proofs.Sums.{pass-agree, pass-none, pass-swap}
 use Rattle.dissolve.specs.Odd.{named_arcs, has_edge, is_odd_arc, odd_arcs}
 use Rattle.dissolve.proofs.Booleans.{and-true, and-false}
@@ -27,7 +27,7 @@ one-in-range f x a (suc n) low high =
       | inl same ↦
           ap (λ b. differ (b && f a) rest) (eq-eqb x a same)
           ∙ ap (differ (f a)) (none-in-range f x (a + 1) n (omega (arith, same)))
-          ∙ differ-false (f a) ∙ ap f (sym same)
+          ∙ differ_false (f a) ∙ ap f (sym same)
       | inr apart ↦
           ap (λ b. differ (b && f a) rest) (ne_eqb x a apart)
           ∙ one-in-range f x (a + 1) n (omega (arith, low, apart)) (omega (arith, high))

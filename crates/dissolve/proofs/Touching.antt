@@ -7,6 +7,7 @@ use Rattle.std.proofs.lemmas.List.Sums.{sum_by-cons}
 use Rattle.std.proofs.lemmas.Option.{slice_get-get_or}
 use Rattle.grid_exact.specs.Geometry.{Place}
 use Rattle.grid_exact.specs.Walks.{is_odd, differ}
+use Rattle.grid_exact.proofs.Walks.{differ_itself}
 use Rattle.arc_map.specs.Map.{Map, IsMap}
 use Rattle.arc_map.specs.Arcs.{is_list_crossed_oddly, is_inside_of}
 use Rattle.arc_map.specs.Arranged.{arc_at, nowhere}
@@ -18,7 +19,7 @@ use Rattle.face_parity.proofs.Lowest.{inside-sum}
 use Rattle.face_parity.proofs.Sums.{pass-agree, pass-append}
 use Rattle.dissolve.specs.Odd.{named_arcs, has_edge, odd_arcs}
 use Rattle.dissolve.specs.Walk.{does_touch, IsEven}
-use Rattle.dissolve.proofs.Booleans.{differ-self, odd-sum, odd-even}
+use Rattle.dissolve.proofs.Booleans.{odd-sum, odd-even}
 use Rattle.dissolve.proofs.Cancelling.{odd-cancelled}
 
 -- ---- the ends of one arc
@@ -30,7 +31,7 @@ end-odd : (q : Place) (ps : List Place) (k : ℕ) → k < length ps → is_odd (
 end-odd q ps k within = ap (λ o. is_odd (times_at q o)) (slice_get-get_or ps k nowhere within) ∙ times-odd q (get_or ps k nowhere)
 
 ends-odd : (q : Place) (ps : List Place) → is_odd (ends_at q ps) ≡ differ (is_same (get_or ps 0 nowhere) q) (is_same (get_or ps (length ps - 1) nowhere) q)
-ends-odd q [] = sym (differ-self (is_same nowhere q))
+ends-odd q [] = sym (differ_itself (is_same nowhere q))
 ends-odd q (p ∷ ps) =
     odd-sum (times_at q (Some p)) (times_at q (last_of (p ∷ ps)))
     ∙ ap (λ b. differ b (is_odd (times_at q (last_of (p ∷ ps))))) (times-odd q p)
@@ -45,7 +46,7 @@ touches-none m q k none =
     let few = few-positions m k none in
     let last : length (arc_at m k) - 1 ≡ 0 = omega (arith, few) in
     ap (λ i. differ (is_same (get_or (arc_at m k) 0 nowhere) q) (is_same (get_or (arc_at m k) i nowhere) q)) last
-    ∙ differ-self (is_same (get_or (arc_at m k) 0 nowhere) q)
+    ∙ differ_itself (is_same (get_or (arc_at m k) 0 nowhere) q)
 
 short-crossed : (p : Place) (ps : List Place) → length ps ≤ 1 → is_list_crossed_oddly p ps ≡ false
 short-crossed p [] few = refl

@@ -6,9 +6,10 @@ use Rattle.std.proofs.lemmas.List.{drop_more}
 use Rattle.std.proofs.lemmas.List.Elements.{filter_agree}
 use Rattle.std.proofs.lemmas.Option.{get_or_from_slice_get}
 use Rattle.grid_exact.specs.Walks.{differ}
+use Rattle.grid_exact.proofs.Crossings.{differ_false}
+use Rattle.grid_exact.proofs.Walks.{differ_assoc}
 use Rattle.arc_map.specs.Map.{Map}
 use Rattle.face_parity.specs.Parities.{pass_oddly}
-use Rattle.face_parity.proofs.Counting.{differ-assoc, differ-false}
 use Rattle.face_parity.proofs.Sums.{pass-append}
 use Rattle.dissolve.specs.Odd.{named_arcs, has_edge, is_odd_arc, odd_arcs}
 use Rattle.dissolve.specs.Unused.{marked}
@@ -37,7 +38,7 @@ turned-more m polygons i arcs marks new within named long turned are =
       count = long ∙ are.count;
       odd = λ k.
           ap (λ b. differ b (pass_oddly (λ arc. arc == k) rest)) (turned k)
-          ∙ differ-assoc (get_or marks k false) (pass_oddly (λ arc. arc == k) arcs) (pass_oddly (λ arc. arc == k) rest)
+          ∙ sym (differ_assoc (get_or marks k false) (pass_oddly (λ arc. arc == k) arcs) (pass_oddly (λ arc. arc == k) rest))
           ∙ ap (differ (get_or marks k false)) (sym (pass-append (λ arc. arc == k) arcs rest) ∙ ap (pass_oddly (λ arc. arc == k)) (sym split))
           ∙ are.odd k;
     }
@@ -46,4 +47,4 @@ turned-more m polygons i arcs marks new within named long turned are =
 pub turned-all : (m : Map) (polygons : List ℕ) (marks new : List Bool) → AreTurned m polygons [] marks → length new ≡ length marks → ((k : ℕ) → get_or new k false ≡ (has_edge m k && get_or marks k false)) → marked new ≡ odd_arcs m polygons
 turned-all m polygons marks new are long left =
     ap (λ n. filter (λ k. get_or new k false) (range_with_len 0 n)) (long ∙ are.count)
-    ∙ filter_agree (λ k. get_or new k false) (is_odd_arc m (named_arcs m polygons)) (λ k. left k ∙ ap (λ b. has_edge m k && b) (sym (differ-false (get_or marks k false)) ∙ are.odd k)) (range_with_len 0 (length m.arcs))
+    ∙ filter_agree (λ k. get_or new k false) (is_odd_arc m (named_arcs m polygons)) (λ k. left k ∙ ap (λ b. has_edge m k && b) (sym (differ_false (get_or marks k false)) ∙ are.odd k)) (range_with_len 0 (length m.arcs))
