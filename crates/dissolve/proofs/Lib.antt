@@ -12,3 +12,4 @@ pub mod Taken
 pub mod Entries
 pub mod Staging
 pub mod Whole
+pub mod Single

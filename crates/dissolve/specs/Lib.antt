@@ -5,3 +5,4 @@ pub mod Texts
 pub mod Unused
 pub mod Walk
 pub mod Written
+pub mod Laws

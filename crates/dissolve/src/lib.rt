@@ -2,12 +2,14 @@
 //! times in sum.
 #![tactic(auto)]
 
+mod laws;
 mod odd;
 mod rings;
 mod step;
 mod unused;
 mod walk;
 
+pub use laws::border_is_one;
 pub use rings::Rings;
 pub use walk::border;
 
