@@ -1,6 +1,7 @@
 //! The odd arcs that no ring has yet.
 ghost use Rattle.std.specs.Prelude.{◌≡◌, ◌<◌, Some, ℕ, false, IfOk, IfSome, OnOk, MatchOption, All, Contains, get_or, length, position};
 ghost use Rattle.grid_exact.specs.Geometry.{Place};
+ghost use Rattle.arc_map.specs.Map.{Map};
 ghost use Rattle.arc_map.specs.Ends.{is_same};
 ghost use Rattle.dissolve.specs.Border.{EndsAt, IsNext, without};
 ghost use Rattle.dissolve.specs.Unused.{AreUnmarked, AreUnused, IsAddedAt, IsPopped, IsTaken, added_at, arcs_at, unused_in};
@@ -94,10 +95,9 @@ impl Unused {
     }
 
     // Takes the arc away.
-    pub fn take(&mut self, map: &ArcMap, arc: u32)
-        requires unused { AreUnused map.now self.old }
-        requires arc { arc < length map.now.arcs }
-        ensures unused { AreUnused map.now self.new }
+    pub fn take(&mut self, arc: u32)
+        requires { arc < length self.old.marks.items }
+        ensures unused { (m : Map) → AreUnused m self.old → AreUnused m self.new }
         ensures left { unused_in self.new ≡ without arc (unused_in self.old) }
     {
         self.marks[arc as usize] = false;

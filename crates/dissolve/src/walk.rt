@@ -98,7 +98,7 @@ fn ring_from(
     let start = first_position(map, arc);
     let mut ring = Vec::new(alloc);
     ring.push(first)?;
-    unused.take(map, arc);
+    unused.take(arc);
     let mut at = first.end(map);
     while at != start {
         let step = unused.next(map, at).unwrap();

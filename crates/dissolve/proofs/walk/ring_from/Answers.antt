@@ -21,7 +21,7 @@ unwrap-step-requires c =
 
 pub loop-start-init : goal.loop-start-init
 loop-start-init c = record {
-  unused = c.take.ensures.unused;
+  unused = c.take.ensures.unused c.args.map.now c.requires.unused;
   way = under-way-first c.args.map.now (unused_in c.args.unused.now) c.args.arc (record { arc = c.args.arc; forwards = true }) c.push.new.self.items c.first_position-start.result c.end-at.result (unused_in c.take.new.self)
       refl (search rules) c.first_position-start.ensures c.end-at.ensures c.take.ensures.left (marked-once c.args.unused.now.marks.items) c.requires.arc c.requires.even;
 }
@@ -55,8 +55,8 @@ loop-start-smaller c =
 pub first_position-start-requires : goal.first_position-start-requires
 first_position-start-requires c = subst (λ n. c.args.arc < n) c.requires.unused.count (marked-below c.args.unused.now.marks.items c.args.arc c.requires.arc)
 
-pub take-requires-clause-arc : goal.take-requires-clause-arc
-take-requires-clause-arc c = subst (λ n. c.args.arc < n) c.requires.unused.count (marked-below c.args.unused.now.marks.items c.args.arc c.requires.arc)
+pub take-requires : goal.take-requires
+take-requires c = marked-below c.args.unused.now.marks.items c.args.arc c.requires.arc
 
 pub end-at-requires : goal.end-at-requires
 end-at-requires c = subst (λ n. c.args.arc < n) c.requires.unused.count (marked-below c.args.unused.now.marks.items c.args.arc c.requires.arc)
