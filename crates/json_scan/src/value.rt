@@ -55,6 +55,7 @@ impl<'a> Value<'a> {
     }
 
     /// The whole number that a Number is, if it is one; `None` where this is no Number.
+    #[inline(always)]
     pub fn as_number(self) -> Option<Whole>
         ensures value { result ≡ number_in (tree self.entry) }
         ensures small { IfSome result IsSmall }
