@@ -1,0 +1,287 @@
+"""A topology in memory: its arcs as flat arrays of places, its objects as they stand in the text."""
+
+import json
+import re
+import warnings
+from collections.abc import Iterator
+from dataclasses import dataclass, field
+from typing import Any
+
+import numpy as np
+import numpy.typing as npt
+
+from .errors import NotATopology, NotJson, NotUtf8
+from .grid import Grid, Places
+
+Integers = npt.NDArray[np.int64]
+References = list[int]
+"""Arc numbers; ``-i - 1`` is arc i walked backwards."""
+
+
+@dataclass
+class Topology:
+    """Arcs, objects and grid of a TopoJSON text.
+
+    Arc i has the places ``places[starts[i]:starts[i + 1]]``. ``members`` are all members of the
+    text but ``arcs``, in their order, ``place_of_arcs`` says where among them ``arcs`` stood.
+    """
+
+    places: Places
+    starts: Integers
+    members: dict[str, Any] = field(default_factory=lambda: {"type": "Topology", "objects": {}})
+    place_of_arcs: int | None = None
+
+    @property
+    def arc_count(self) -> int:
+        """The number of arcs."""
+        return len(self.starts) - 1
+
+    @property
+    def is_coded(self) -> bool:
+        """Whether positions are written as differences (a transform is there)."""
+        return self.members.get("transform") is not None
+
+    @property
+    def grid(self) -> Grid:
+        """The grid of the text's transform; without one the plain grid of step 1."""
+        transform = self.members.get("transform")
+        if transform is None:
+            return Grid()
+        (sx, sy), (tx, ty) = transform["scale"], transform["translate"]
+        return Grid((float(sx), float(sy)), (float(tx), float(ty)))
+
+    @property
+    def objects(self) -> dict[str, Any]:
+        """The geometry objects by name."""
+        objects: dict[str, Any] = self.members["objects"]
+        return objects
+
+    def arc(self, number: int) -> Places:
+        """Give the places of an arc; a number below 0 gives it backwards, as references do."""
+        forward = number if number >= 0 else -number - 1
+        places = self.places[self.starts[forward] : self.starts[forward + 1]]
+        return places if number >= 0 else places[::-1]
+
+    def points(self) -> Places:
+        """Give the places of all points and multipoints, in the order of the text."""
+        rows: list[list[float]] = []
+        for geometry in walk(self.objects):
+            if geometry["type"] == "Point":
+                rows.append(geometry["coordinates"])
+            elif geometry["type"] == "MultiPoint":
+                rows += geometry["coordinates"]
+        return np.array(rows, dtype=np.int64).reshape(-1, 2)
+
+    def with_arcs(self, places: Places, starts: Integers) -> "Topology":
+        """Give the same topology with other arcs."""
+        return Topology(places, starts, self.members, self.place_of_arcs)
+
+    def without_repeats(self) -> "Topology":
+        """Give the same topology with consecutive equal positions of an arc taken once."""
+        fresh = np.ones(len(self.places), dtype=bool)
+        fresh[1:] = (self.places[1:] != self.places[:-1]).any(axis=1)
+        fresh[self.starts[:-1]] = True
+        if fresh.all():
+            return self
+        counted = np.concatenate(([0], np.cumsum(fresh)))
+        return self.with_arcs(self.places[fresh], counted[self.starts])
+
+    def text(self) -> bytes:
+        """Give the compact TopoJSON text."""
+        parts = [f"{_compact(k)}:{_compact(v)}".encode() for k, v in self.members.items()]
+        arcs = b'"arcs":' + arcs_text(self.places, self.starts, coded=self.is_coded)
+        parts.insert(len(parts) if self.place_of_arcs is None else self.place_of_arcs, arcs)
+        return b"{" + b",".join(parts) + b"}"
+
+
+def _compact(value: object) -> str:
+    return json.dumps(value, ensure_ascii=False, separators=(",", ":"))
+
+
+def walk(objects: dict[str, Any]) -> Iterator[dict[str, Any]]:
+    """Give each geometry that is no collection, in the order of the text."""
+    stack = list(reversed(objects.values()))
+    while stack:
+        geometry = stack.pop()
+        if geometry["type"] == "GeometryCollection":
+            stack.extend(reversed(geometry["geometries"]))
+        else:
+            yield geometry
+
+
+def polygons(objects: dict[str, Any]) -> Iterator[list[list[References]]]:
+    """Give each polygon or multipolygon, in the order of the text, as parts of rings."""
+    for geometry in walk(objects):
+        if geometry["type"] == "Polygon":
+            yield [geometry["arcs"]]
+        elif geometry["type"] == "MultiPolygon":
+            yield geometry["arcs"]
+
+
+def starts_of(counts: Integers | list[int]) -> Integers:
+    """Give the starts that belong to counts of positions."""
+    return np.concatenate(([0], np.cumsum(np.asarray(counts, dtype=np.int64)))).astype(np.int64)
+
+
+def arcs_text(places: Places, starts: Integers, *, coded: bool = False) -> bytes:
+    """Give the value of ``arcs``: absolute positions, or differences where ``coded``.
+
+    An arc of one position is written with that position twice.
+    """
+    places, starts = _lone_twice(places, starts)
+    rows = places
+    if coded and len(places):
+        rows = np.diff(places, axis=0, prepend=places[:1] * 0)
+        firsts = starts[:-1][starts[:-1] < starts[1:]]
+        rows[firsts] = places[firsts]
+    pieces = []
+    for low in range(0, len(starts) - 1, _CHUNK):
+        ends = starts[low : low + _CHUNK + 1]
+        values = rows[ends[0] : ends[-1]].tolist()
+        cuts = (ends - ends[0]).tolist()
+        arcs = [values[a:b] for a, b in zip(cuts, cuts[1:], strict=False)]
+        pieces.append(json.dumps(arcs, separators=(",", ":"))[1:-1].encode())
+    return b"[" + b",".join(pieces) + b"]"
+
+
+def _lone_twice(places: Places, starts: Integers) -> tuple[Places, Integers]:
+    counts = np.diff(starts)
+    if not (counts == 1).any():
+        return places, starts
+    times = np.ones(len(places), dtype=np.int64)
+    times[starts[:-1][counts == 1]] = 2
+    return np.repeat(places, times, axis=0), starts_of(np.where(counts == 1, 2, counts))
+
+
+_CHUNK = 20_000
+_NUMBERS = re.compile(r"[-+\[\]\d\s,.eE]+")
+_OPEN, _CLOSE = ord("["), ord("]")
+_BLANKS = bytes.maketrans(b"[],\t\r\n", b"      ")
+
+
+def read(text: bytes) -> Topology:
+    """Read a TopoJSON text with whole coordinates, of any size.
+
+    Raises NotUtf8, NotJson or NotATopology. It is no substitute for the command's own reader, which
+    judges every text that is thinned: it takes out what this package wants.
+    """
+    spans = _members(text)
+    if "arcs" not in spans:
+        raise NotATopology("missing member", 0)
+    low, high = spans["arcs"]
+    order = list(spans)
+    members = {key: json.loads(text[a:b]) for key, (a, b) in spans.items() if key != "arcs"}
+    if members.get("type") != "Topology" or not isinstance(members.get("objects"), dict):
+        raise NotATopology("wrong type", 0)
+    places, starts = read_arcs(text[low:high], low)
+    if members.get("transform") is not None:
+        places = _undo_differences(places, starts)
+    return Topology(places, starts, members, order.index("arcs"))
+
+
+def _undo_differences(rows: Places, starts: Integers) -> Places:
+    if not len(rows):
+        return rows
+    sums = np.cumsum(rows, axis=0)
+    firsts = np.minimum(starts[:-1], len(rows) - 1)
+    before = sums[firsts] - rows[firsts]
+    return np.asarray(sums - np.repeat(before, np.diff(starts), axis=0), dtype=np.int64)
+
+
+def _members(text: bytes) -> dict[str, tuple[int, int]]:
+    """Give the span of the value of each top member."""
+    try:
+        shown = text.decode()
+    except UnicodeDecodeError as error:
+        raise NotUtf8(error.start) from error
+    if len(shown) != len(text):
+        return _members_of_wide(shown)
+    return {key: (a, b) for key, a, b in _scan_members(shown)}
+
+
+def _members_of_wide(shown: str) -> dict[str, tuple[int, int]]:
+    spans, at, done = {}, 0, 0
+    for key, low, high in _scan_members(shown):
+        at += len(shown[done:low].encode())
+        start = at
+        at += len(shown[low:high].encode())
+        spans[key], done = (start, at), high
+    return spans
+
+
+def _scan_members(shown: str) -> Iterator[tuple[str, int, int]]:
+    decoder = json.JSONDecoder()
+    try:
+        at = _skip(shown, 1 if shown.startswith("\ufeff") else 0)
+        if shown[at : at + 1] != "{":
+            json.loads(shown)
+            raise NotATopology("not an object", at)
+        at = _skip(shown, at + 1)
+        while shown[at : at + 1] == '"':
+            key, at = decoder.raw_decode(shown, at)
+            at = _expect(shown, _skip(shown, at), ":")
+            end = _end_of_numbers(shown, at) if key == "arcs" else decoder.raw_decode(shown, at)[1]
+            yield key, at, end
+            at = _skip(shown, end)
+            if shown[at : at + 1] == ",":
+                at = _skip(shown, at + 1)
+        _expect(shown, at, "}")
+    except json.JSONDecodeError as error:
+        raise NotJson(error.pos) from error
+
+
+def _skip(shown: str, at: int) -> int:
+    while shown[at : at + 1] in (" ", "\t", "\n", "\r"):
+        at += 1
+    return at
+
+
+def _expect(shown: str, at: int, mark: str) -> int:
+    if shown[at : at + 1] != mark:
+        raise json.JSONDecodeError(f"{mark} expected", shown, at)
+    return _skip(shown, at + 1)
+
+
+def _end_of_numbers(shown: str, at: int) -> int:
+    """Give the end of the value at ``at``, which has only numbers, brackets and commas."""
+    match = _NUMBERS.match(shown, at)
+    if match is None:
+        raise json.JSONDecodeError("arcs expected", shown, at)
+    return at + len(match.group().rstrip(" \t\r\n,"))
+
+
+def read_arcs(text: bytes, at: int = 0) -> tuple[Places, Integers]:
+    """Read the value of ``arcs``: the numbers as they stand, and the starts of the arcs.
+
+    Raises NotATopology where positions are no pairs of whole numbers; ``at`` is the text's place.
+    """
+    values = np.frombuffer(text, dtype=np.uint8)
+    if not text.startswith(b"[") or not text.endswith(b"]"):
+        raise NotATopology("wrong type", at)
+    opens = np.flatnonzero(values == _OPEN)
+    closes = np.flatnonzero(values == _CLOSE)
+    if len(opens) == 1:
+        return np.empty((0, 2), dtype=np.int64), np.zeros(1, dtype=np.int64)
+    numbers = _whole_numbers(text, at)
+    firsts = _arc_firsts(opens, closes)
+    positions = len(opens) - 1 - len(firsts)
+    if len(opens) != len(closes) or len(numbers) != 2 * positions:
+        raise NotATopology("positions are no pairs", at)
+    before = np.searchsorted(opens, firsts)
+    starts = before - np.arange(len(firsts)) - 1
+    return numbers.reshape(-1, 2), np.append(starts, positions).astype(np.int64)
+
+
+def _whole_numbers(text: bytes, at: int) -> Integers:
+    with warnings.catch_warnings():
+        warnings.simplefilter("error")
+        try:
+            return np.fromstring(text.translate(_BLANKS), dtype=np.int64, sep=" ")
+        except (ValueError, DeprecationWarning) as error:
+            raise NotATopology("not whole", at) from error
+
+
+def _arc_firsts(opens: Integers, closes: Integers) -> Integers:
+    """Give the places of the brackets that open an arc: those at depth 2."""
+    depth = 1 + np.arange(len(opens)) - np.searchsorted(closes, opens)
+    return opens[depth == 2]
