@@ -93,7 +93,8 @@ class _Maker:
 
     def _arc(self, low: int, size: int, a: int, b: int) -> int:
         def key(at: int) -> int:
-            return self.keys[low + (at - low) % size]
+            found: int = self.keys[low + (at - low) % size]
+            return found
 
         known = self._known.get((key(a), key(a + 1)))
         if known is not None:
@@ -142,7 +143,9 @@ def confirm(topology: Topology, rings: list[References], wanted: Snapped) -> Non
         raise NotConfirmed(f"the topology has {len(rings)} rings")
     for number, references in enumerate(rings):
         low, high = wanted.starts[number], wanted.starts[number + 1]
-        if not _is_turned(keys_of(ring_places(topology, references)), keys_of(wanted.places[low:high])):
+        if not _is_turned(
+            keys_of(ring_places(topology, references)), keys_of(wanted.places[low:high])
+        ):
             raise NotConfirmed(f"ring {number} of the topology is not that of the coverage")
 
 

@@ -78,7 +78,9 @@ def _source(options: argparse.Namespace) -> Source:
     return read_frame(options.input, options.layer)
 
 
-def _thin(options: argparse.Namespace, source: Source, towns: Any, bar: "_Bar") -> Thinned | ThinnedLarge:
+def _thin(
+    options: argparse.Namespace, source: Source, towns: Any, bar: "_Bar"
+) -> Thinned | ThinnedLarge:
     shared = {
         "towns": towns,
         "grid": options.grid,
@@ -118,7 +120,9 @@ def _write(thinned: Thinned | ThinnedLarge, options: argparse.Namespace) -> None
 
             picture_of(thinned, options.picture)
         if options.view:
-            page = view_page(thinned.source, thinned.text, thinned.certificate, Path(options.input).stem)
+            page = view_page(
+                thinned.source, thinned.text, thinned.certificate, Path(options.input).stem
+            )
             write_bytes(options.view, page.encode())
     elif options.certificate or options.picture or options.view:
         thinned.report.notes.append("no certificate, picture or page of a map thinned in tiles")
@@ -163,7 +167,9 @@ def _view(options: argparse.Namespace) -> None:
             texts.append(Path(name).read_bytes())
         except OSError as error:
             raise NotRead(name, str(error.strerror)) from error
-    page = view_page(texts[0], texts[1], texts[2] if len(texts) > 2 else None, Path(options.file).stem)
+    page = view_page(
+        texts[0], texts[1], texts[2] if len(texts) > 2 else None, Path(options.file).stem
+    )
     write_bytes(options.output, page.encode())
 
 

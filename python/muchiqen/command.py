@@ -52,7 +52,7 @@ def find(program: str | os.PathLike[str] | None = None) -> Path:
         if found is None:
             raise ProgramNotFound(os.fspath(named))
         return Path(found).resolve()
-    found = shutil.which(NAME) or shutil.which(_OWN_BUILD)
+    found = shutil.which(NAME) or shutil.which(str(_OWN_BUILD))
     if found is None:
         raise ProgramNotFound(f"MUCHIQEN, PATH, {_OWN_BUILD}")
     return Path(found).resolve()
@@ -79,7 +79,11 @@ def run(
         handles += [_in_memory(other) for other in others]
         names = [f"/dev/fd/{handle}" for handle in handles]
         done = subprocess.run(
-            [program, *words, *names], input=text, capture_output=True, pass_fds=handles, check=False
+            [program, *words, *names],
+            input=text,
+            capture_output=True,
+            pass_fds=handles,
+            check=False,
         )
     except OSError as error:
         raise ProgramNotFound(f"{program} ({error.strerror})") from error

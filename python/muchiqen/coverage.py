@@ -57,7 +57,7 @@ def rings_of(frame: gpd.GeoDataFrame) -> Rings:
     rows: list[Parts | None] = []
     pieces: list[Coordinates] = []
     for geometry in geometries:
-        rows.append(None if _is_missing(geometry) else _take_parts(geometry, pieces))
+        rows.append(None if is_missing(geometry) else _take_parts(geometry, pieces))
     coordinates = np.concatenate(pieces) if pieces else np.empty((0, 2))
     starts = starts_of([len(piece) for piece in pieces])
     _refuse_infinite(frame, coordinates, starts, rows)
@@ -65,7 +65,8 @@ def rings_of(frame: gpd.GeoDataFrame) -> Rings:
     return Rings(coordinates, starts, rows, multi, _notes_on(frame, geometries))
 
 
-def _is_missing(geometry: Any) -> bool:
+def is_missing(geometry: Any) -> bool:
+    """Tell whether there is no geometry, or an empty one."""
     return geometry is None or bool(geometry.is_empty)
 
 
@@ -73,7 +74,7 @@ def _refuse_others(frame: gpd.GeoDataFrame, geometries: list[Any]) -> None:
     wrong = [
         label
         for label, geometry in zip(frame.index, geometries, strict=True)
-        if not _is_missing(geometry) and geometry.geom_type not in ("Polygon", "MultiPolygon")
+        if not is_missing(geometry) and geometry.geom_type not in ("Polygon", "MultiPolygon")
     ]
     if wrong:
         raise NotACoverage("neither a polygon nor a multipolygon", wrong)
@@ -107,13 +108,11 @@ def _take_parts(geometry: Any, pieces: list[Coordinates]) -> Parts:
 
 def _notes_on(frame: gpd.GeoDataFrame, geometries: list[Any]) -> list[str]:
     notes = []
-    missing = [x for x, g in zip(frame.index, geometries, strict=True) if _is_missing(g)]
+    missing = [x for x, g in zip(frame.index, geometries, strict=True) if is_missing(g)]
     if missing:
         notes.append(f"{_rows(missing)} without a geometry, left as found")
     high = [
-        x
-        for x, g in zip(frame.index, geometries, strict=True)
-        if not _is_missing(g) and g.has_z
+        x for x, g in zip(frame.index, geometries, strict=True) if not is_missing(g) and g.has_z
     ]
     if high:
         notes.append(f"{_rows(high)} with heights, which are dropped")
@@ -135,12 +134,12 @@ def snapped(rings: Rings, grid: Grid, labels: list[Any]) -> Snapped:
     places = grid.snap(rings.coordinates)
     moves = grid.moves(rings.coordinates, places)
     keep = _without_repeats(places, rings.starts)
-    counted = np.concatenate(([0], np.cumsum(keep)))
-    starts = counted[rings.starts]
+    starts = starts_of(keep)[rings.starts]
     places = places[keep]
     sizes = np.diff(starts)
     flat = (sizes < 3) | _walks_there_and_back(places, starts)
     kept, rows, notes = _without_flat(rings.rows, flat, labels)
+    notes += _joined_notes(rings.coordinates[keep], places)
     places = places[np.repeat(~flat, sizes)]
     moved = moves.max(axis=0) if len(moves) else (0.0, 0.0)
     return Snapped(
@@ -180,10 +179,31 @@ def _without_flat(
         fresh.append([[int(number[r]) for r in part if not flat[r]] for part in left])
         if parts and not left:
             lost.append(label)
-    notes = [f"{gone} rings have fewer than three places on the grid and are left out"] if gone else []
+    notes = (
+        [f"{gone} rings have fewer than three places on the grid and are left out"] if gone else []
+    )
     if lost:
         notes.append(f"{_rows(lost)} nothing is left on the grid, the geometry is empty")
     return np.flatnonzero(~flat), fresh, notes
+
+
+def _joined_notes(coordinates: Coordinates, places: Places) -> list[str]:
+    """Say where positions that were apart came together on the grid."""
+    order = np.lexsort((coordinates[:, 1], coordinates[:, 0], places[:, 1], places[:, 0]))
+    found, where = coordinates[order], places[order]
+    same = (where[1:] == where[:-1]).all(axis=1)
+    apart = np.abs(found[1:] - found[:-1])
+    noise = 4 * np.spacing(np.abs(found[1:]))
+    joined = same & (apart > noise).any(axis=1)
+    if not joined.any():
+        return []
+    count = len(np.unique(where[1:][joined], axis=0))
+    most = float(np.hypot(*apart[joined].T).max())
+    x, y = found[1:][joined][0]
+    return [
+        f"at {count} places positions that were up to {most:.3g} apart came together by snapping, "
+        f"the first near ({x:.9g}, {y:.9g})"
+    ]
 
 
 def geojson(rings: Snapped, towns: Places | None) -> bytes:

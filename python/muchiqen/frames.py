@@ -4,14 +4,7 @@ from typing import Any
 
 import geopandas as gpd
 import numpy as np
-from shapely.geometry import (
-    LineString,
-    MultiLineString,
-    MultiPoint,
-    MultiPolygon,
-    Point,
-    Polygon,
-)
+from shapely.geometry import LineString, MultiLineString, MultiPoint, MultiPolygon, Point, Polygon
 
 from .build import ring_places
 from .grid import Coordinates
@@ -107,7 +100,9 @@ def rings_of_rows(geometries: list[dict[str, Any]]) -> list[References]:
     """Give the rings of polygons in their order."""
     rings: list[References] = []
     for geometry in geometries:
-        parts = geometry["arcs"] if geometry["type"] == "MultiPolygon" else [geometry.get("arcs", [])]
+        parts = (
+            geometry["arcs"] if geometry["type"] == "MultiPolygon" else [geometry.get("arcs", [])]
+        )
         rings += [ring for part in parts for ring in part]
     return rings
 

@@ -41,19 +41,18 @@ class Grid:
         places = np.rint((coordinates - self.translate) / self.scale)
         if places.size and not np.abs(places).max() <= EDGE:
             raise BadGrid(f"the map reaches past {EDGE} steps of {self.scale}")
-        return places.astype(np.int64)
+        return np.asarray(places, dtype=np.int64)
 
     def unsnap(self, places: Places) -> Coordinates:
         """Give the coordinates of places: for a step of 10^-k the doubles of short decimals."""
         columns = [_steps(places[:, axis], self.scale[axis]) for axis in (0, 1)]
-        return np.column_stack(columns) + self.translate
+        return np.asarray(np.column_stack(columns) + self.translate, dtype=np.float64)
 
     def moves(self, coordinates: Coordinates, places: Places) -> Coordinates:
         """Give how far snapping moved each position on each axis, rounding noise taken as 0."""
         moved = np.abs(self.unsnap(places) - coordinates)
         noise = 4 * np.spacing(np.maximum(np.abs(coordinates), np.abs(self.translate)))
-        moved[moved <= noise] = 0.0
-        return moved
+        return np.where(moved <= noise, 0.0, moved)
 
 
 def _steps(numbers: Places, step: float) -> Coordinates:

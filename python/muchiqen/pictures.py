@@ -2,7 +2,7 @@
 
 import io
 import os
-from collections.abc import Iterable, Sequence
+from collections.abc import Callable, Iterable, Sequence
 from dataclasses import dataclass
 from pathlib import Path
 from typing import Any
@@ -10,10 +10,11 @@ from typing import Any
 import geopandas as gpd
 import numpy as np
 
+from .coverage import is_missing
 from .errors import NotWritten
 from .files import write_bytes
 from .grid import Coordinates
-from .thin import Thinned
+from .thin import Thinned, degree_ratio
 from .topology import Topology
 
 _BEFORE, _AFTER, _HELD, _DROPPED, _TOWN = "#e08214", "#2d3a4a", "#c51b7d", "#fdb863", "#1a7837"
@@ -37,29 +38,33 @@ def picture(
     held: Sequence[int] = (),
     title: str | None = None,
     inset: bool = True,
+    aspect: float = 1.0,
     file: str | os.PathLike[str] | None = None,
 ) -> Any:
     """Draw a map before and after, one over the other, and give the matplotlib figure.
 
     Two topologies are drawn arc by arc (``held`` are numbers of arcs, in another colour), two
     GeoDataFrames ring by ring. Dropped vertices are dots, towns squares, and an inset shows where
-    the largest change is. ``file`` is written in the format of its ending (PNG, SVG, PDF). Raises
+    the largest change is. ``aspect`` is how long a unit up is drawn beside a unit across, and
+    ``file`` is written in the format of its ending (PNG, SVG, PDF). Raises
     NotWritten.
     """
     from matplotlib.figure import Figure
 
-    changes = list(_changes(before, after))
-    figure = Figure(figsize=(8, 8), layout="constrained")
-    axes = figure.subplots()
-    _draw(axes, changes, towns, held, dots=1.5)
-    axes.set_aspect("equal")
+    changes = list(_changes(before, after, aspect))
+    largest = _largest(changes) if inset else None
+    figure = Figure(figsize=(10, 6.5), layout="constrained")
+    axes, small = figure.subplots(1, 2, width_ratios=(2.6, 1))
+    _draw(axes, changes, towns, held, dots=1.5 if len(changes) < 500 else 0.5)
+    axes.set_aspect(aspect)
     axes.ticklabel_format(useOffset=False)
-    if title:
-        axes.set_title(title)
-    axes.legend(loc="upper left", fontsize=8)
-    largest = _largest(changes)
-    if inset and largest is not None:
-        _inset(axes, changes, towns, held, largest)
+    axes.set_title(title or "")
+    if largest is not None:
+        _inset(axes, small, largest, lambda: _draw(small, changes, towns, held, dots=5))
+        small.set_aspect(aspect)
+    else:
+        small.set_axis_off()
+    axes.legend(loc="upper center", bbox_to_anchor=(0.5, -0.06), ncols=3, frameon=False)
     if file is not None:
         _save(figure, file)
     return figure
@@ -68,8 +73,16 @@ def picture(
 def picture_of(thinned: Thinned, file: str | os.PathLike[str] | None = None, **options: Any) -> Any:
     """Draw what ``simplify`` made: ``picture`` with its topologies, towns and held arcs."""
     held = [meeting.arc for meeting in thinned.report.held]
+    options.setdefault("aspect", _aspect_of(thinned.frame))
     towns = thinned.towns
     return picture(thinned.before, thinned.after, towns=towns, held=held, file=file, **options)
+
+
+def _aspect_of(frame: gpd.GeoDataFrame) -> float:
+    if frame.crs is None or not frame.crs.is_geographic or not len(frame):
+        return 1.0
+    low, high = frame.total_bounds[1], frame.total_bounds[3]
+    return 1 / degree_ratio((low + high) / 2)
 
 
 def _save(figure: Any, file: str | os.PathLike[str]) -> None:
@@ -82,18 +95,18 @@ def _save(figure: Any, file: str | os.PathLike[str]) -> None:
     write_bytes(file, made.getvalue())
 
 
-def _changes(before: Any, after: Any) -> Iterable[Change]:
+def _changes(before: Any, after: Any, aspect: float) -> Iterable[Change]:
     if isinstance(before, Topology) and isinstance(after, Topology):
         first, second = before.grid.unsnap(before.places), after.grid.unsnap(after.places)
         for arc in range(before.arc_count):
             old = first[before.starts[arc] : before.starts[arc + 1]]
-            yield change(old, second[after.starts[arc] : after.starts[arc + 1]])
+            new = second[after.starts[arc] : after.starts[arc + 1]]
+            yield change(old, new, aspect)
         return
-    for old, new in zip(before.geometry, after.geometry, strict=True):
-        if old is None or new is None or old.is_empty or new.is_empty:
-            continue
-        for ring_before, ring_after in zip(_rings(old), _rings(new), strict=False):
-            yield change(ring_before, ring_after)
+    for row, thin_row in zip(before.geometry, after.geometry, strict=True):
+        if not is_missing(row) and not is_missing(thin_row):
+            for ring, thin_ring in zip(_rings(row), _rings(thin_row), strict=False):
+                yield change(ring, thin_ring, aspect)
 
 
 def _rings(geometry: Any) -> Iterable[Coordinates]:
@@ -102,21 +115,24 @@ def _rings(geometry: Any) -> Iterable[Coordinates]:
             yield np.asarray(ring.coords, dtype=np.float64)[:, :2]
 
 
-def change(before: Coordinates, after: Coordinates) -> Change:
+def change(before: Coordinates, after: Coordinates, aspect: float = 1.0) -> Change:
     """Find what was dropped of a line, and its distances from the edges that skip it.
 
-    Where the line after is no sublist of the one before, distances are from the nearest edge.
+    Distances are in units up, of which one across has ``1 / aspect``. Where the line after is no
+    sublist of the one before, they are from the nearest edge.
     """
+    unit = np.array([1 / aspect, 1.0])
     kept = _sublist(before, after)
     if kept is None:
         dropped = before[~_members(before, after)]
-        return Change(before, after, dropped, _nearest(dropped, after))
+        return Change(before, after, dropped, _nearest(dropped * unit, after * unit))
     gone = np.ones(len(before), dtype=bool)
     gone[kept] = False
     at = np.flatnonzero(gone)
     edge = np.clip(np.searchsorted(kept, at) - 1, 0, max(len(kept) - 2, 0))
-    start, end = before[kept[edge]], before[kept[np.minimum(edge + 1, len(kept) - 1)]]
-    return Change(before, after, before[at], _distances(before[at], start, end))
+    rows = before * unit
+    start, end = rows[kept[edge]], rows[kept[np.minimum(edge + 1, len(kept) - 1)]]
+    return Change(before, after, before[at], _distances(rows[at], start, end))
 
 
 def _sublist(before: Coordinates, after: Coordinates) -> Any:
@@ -159,7 +175,9 @@ def _largest(changes: list[Change]) -> tuple[Coordinates, float] | None:
     return most.dropped[at], float(most.distances[at])
 
 
-def _draw(axes: Any, changes: list[Change], towns: Any, held: Sequence[int], *, dots: float) -> None:
+def _draw(
+    axes: Any, changes: list[Change], towns: Any, held: Sequence[int], *, dots: float
+) -> None:
     from matplotlib.collections import LineCollection
 
     marked = set(held)
@@ -183,17 +201,18 @@ def _draw(axes: Any, changes: list[Change], towns: Any, held: Sequence[int], *, 
 
 
 def _inset(
-    axes: Any, changes: list[Change], towns: Any, held: Sequence[int], largest: tuple[Coordinates, float]
+    axes: Any, small: Any, largest: tuple[Coordinates, float], draw: Callable[[], None]
 ) -> None:
+    from matplotlib.patches import Rectangle
+
+    draw()
     (x, y), distance = largest
-    small = axes.inset_axes([0.66, 0.66, 0.33, 0.33])
-    _draw(small, changes, towns, held, dots=4)
     low, high = axes.get_xlim()
-    half = min(max(6 * distance, (high - low) / 60), (high - low) / 4)
+    half = min(max(4 * distance, (high - low) / 80), (high - low) / 6)
     small.set_xlim(x - half, x + half)
-    small.set_ylim(y - half, y + half)
-    small.set_aspect("equal")
+    small.set_ylim(y - 1.4 * half, y + 1.4 * half)
     small.set_xticks([])
     small.set_yticks([])
-    small.set_title(f"largest change: {distance:.4g}", fontsize=8)
-    axes.indicate_inset_zoom(small, edgecolor="black")
+    small.set_title(f"largest change: {distance:.3g}", fontsize=10)
+    corner, sides = (x - half, y - 1.4 * half), (2 * half, 2.8 * half)
+    axes.add_patch(Rectangle(corner, *sides, fill=False, edgecolor="black", linewidth=1, zorder=5))

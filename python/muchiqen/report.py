@@ -32,7 +32,8 @@ class Report:
         """Give the report as lines."""
         weights = "" if self.weights is None else f", weights {self.weights[0]} {self.weights[1]}"
         lines = [
-            f"{self.positions_before:,} positions of {self.arcs:,} arcs, {self.positions_after:,} left",
+            f"{self.positions_before:,} positions of {self.arcs:,} arcs, "
+            f"{self.positions_after:,} left",
             f"grid step {self.step:g}, bound {self.bound} steps{weights}, "
             f"largest move by snapping {self.largest_move:g}",
             f"{len(self.held)} arcs held",

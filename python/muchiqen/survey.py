@@ -96,10 +96,8 @@ def holders(
     return found
 
 
-def _odd_lines(
-    coordinates: Any, starts: Integers, points: Any
-) -> dict[int, npt.NDArray[np.int64]]:
-    """Give for each line the points (sorted by x) from which it is crossed an odd number of times."""
+def _odd_lines(coordinates: Any, starts: Integers, points: Any) -> dict[int, npt.NDArray[np.int64]]:
+    """Give for each line the points (sorted by x) from which it is crossed an odd time."""
     line = np.repeat(np.arange(len(starts) - 1), np.diff(starts))
     edges = np.flatnonzero(line[1:] == line[:-1])
     a, b = _ordered(coordinates[edges], coordinates[edges + 1])
@@ -117,7 +115,7 @@ def _odd_lines(
     lines, points_hit = odd // max(len(points), 1), odd % max(len(points), 1)
     cuts = np.flatnonzero(np.diff(lines)) + 1
     groups = np.split(points_hit, cuts) if len(odd) else []
-    heads = lines[np.concatenate(([0], cuts))].tolist() if len(odd) else []
+    heads = lines[np.insert(cuts, 0, 0)].tolist() if len(odd) else []
     return dict(zip(heads, groups, strict=True))
 
 

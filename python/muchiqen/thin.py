@@ -11,20 +11,13 @@ from typing import Any
 
 import geopandas as gpd
 import numpy as np
-from shapely.geometry import LineString, Point
+from shapely.geometry import LineString, Point, Polygon
 
 from . import build as own_build
 from . import coverage as cover
 from . import grid as grids
 from . import survey
-from .command import (
-    MOST_BOUND,
-    MOST_BYTES,
-    MOST_RING_POSITIONS,
-    Command,
-    Weights,
-    checked_weights,
-)
+from .command import MOST_BOUND, MOST_BYTES, MOST_RING_POSITIONS, Command, Weights, checked_weights
 from .errors import ArcsMeet, NotACoverage, NotConfirmed, NotRead, PointOnArc
 from .frames import frame_of, polygon_object, rings_of_rows, rows_of
 from .grid import Coordinates, Grid, Places
@@ -33,7 +26,8 @@ from .report import Report
 from .topology import Topology, polygons, read
 
 Program = str | os.PathLike[str] | Command | None
-Source = gpd.GeoDataFrame | Topology | str | os.PathLike[str] | bytes
+Source = Any
+"""A GeoDataFrame, a Topology, or the bytes or the name of a TopoJSON file."""
 
 _MOST_AUTOMATIC_WEIGHT = 64
 
@@ -212,10 +206,10 @@ class Work:
         made = frame_of(topology, polygon_object(topology), self.crs)
         if self.frame is None:
             return made
-        geometry = gpd.GeoSeries(list(made.geometry), index=self.frame.index, crs=self.crs)
-        geometry = geometry.where(self.frame.geometry.notna(), None)
+        pairs = zip(self.frame.geometry, made.geometry, strict=True)
+        geometry = [old if cover.is_missing(old) else new or Polygon() for old, new in pairs]
         frame = self.frame.copy()
-        frame[self.frame.geometry.name] = geometry
+        frame[frame.geometry.name] = gpd.GeoSeries(geometry, index=frame.index, crs=self.crs)
         return frame
 
     def town_frame(self) -> gpd.GeoDataFrame | None:
@@ -252,9 +246,7 @@ def prepare(
     bound = bound_of(tolerance, moved, topology.grid, used, notes)
     coordinates = coordinates if towns is not None else topology.grid.unsnap(topology.points())
     labels = labels if towns is not None else list(range(len(coordinates)))
-    return Work(
-        topology, None, raw, crs, used, bound, moved, "file", notes, labels, coordinates
-    )
+    return Work(topology, None, raw, crs, used, bound, moved, "file", notes, labels, coordinates)
 
 
 def _bytes_of(coverage: Any) -> bytes | None:
@@ -310,7 +302,18 @@ def _prepare_frame(
     topology, built_by = make_topology(snapped, places, chosen, command)
     bound = bound_of(tolerance, snapped.moved, chosen, used, notes)
     return Work(
-        topology, frame, None, frame.crs, used, bound, moved, built_by, notes, labels, coordinates, rings
+        topology,
+        frame,
+        None,
+        frame.crs,
+        used,
+        bound,
+        moved,
+        built_by,
+        notes,
+        labels,
+        coordinates,
+        rings,
     )
 
 
@@ -360,7 +363,7 @@ def towns_of(
 def make_topology(
     snapped: cover.Snapped, towns: Places | None, grid: Grid, command: Command
 ) -> tuple[Topology, str]:
-    """Make the topology by the command's ``build`` where it has it and the map is within its limits.
+    """Make the topology by the command's ``build``, where it has it and the map fits.
 
     Otherwise the package's own way makes it. Either way the rings are put together again and
     compared: NotConfirmed where one differs.
@@ -449,13 +452,15 @@ def bound_of(
     weights: Weights | None,
     notes: list[str],
 ) -> int:
-    """Give the bound in grid steps (times the weight up): the tolerance less the move by snapping."""
+    """Give the bound in grid steps (times the weight up): the tolerance less the largest move."""
     across, up = weights or (1, 1)
     shift = math.hypot(moved[0] * across / up, moved[1])
     room = Decimal(repr(tolerance)) - Decimal(repr(shift)) * Decimal("1.000001")
     steps = (room / Decimal(repr(grid.step)) * up).to_integral_value(rounding=ROUND_FLOOR)
     if steps < 0:
-        notes.append(f"snapping moves by up to {shift:g}, more than the tolerance: take a finer grid")
+        notes.append(
+            f"snapping moves by up to {shift:g}, more than the tolerance: take a finer grid"
+        )
         return 0
     if tolerance == 0:
         notes.append("tolerance 0: only positions on the straight way go")
@@ -463,7 +468,7 @@ def bound_of(
         notes.append(f"the tolerance is only {steps} grid steps")
     if steps > MOST_BOUND:
         notes.append("the tolerance is wider than the grid")
-    return int(min(steps, MOST_BOUND))
+    return min(int(steps), MOST_BOUND)
 
 
 def _with_causes(held: list[Held], work: Work) -> list[Held]:
@@ -526,7 +531,9 @@ def _after_notes(work: Work, frame: gpd.GeoDataFrame) -> list[str]:
     bad = survey.invalid_rows(frame)
     if not bad:
         return []
-    before = set(survey.invalid_rows(work.frame if work.frame is not None else work.rows_of(work.topology)))
+    before = set(
+        survey.invalid_rows(work.frame if work.frame is not None else work.rows_of(work.topology))
+    )
     snapped = set(survey.invalid_rows(work.rows_of(work.topology)))
     fresh = [label for label in bad if label not in snapped]
     if fresh:

@@ -1,7 +1,7 @@
 """Deals the arcs of a map of any size to tiles, and gives each tile its text.
 
 A long arc is cut into ranges at ends of its chains, which every run keeps, and only where no other
-arc comes by. A tile owns ranges; everything else with a part in its box is context, which is frozen.
+arc comes by. A tile owns ranges; all else with a part in its box is context, which is frozen.
 """
 
 from collections.abc import Iterator
@@ -115,7 +115,9 @@ class Tiling:
         for arc in long:
             start = int(self.starts[arc])
             places = self.places[start : int(self.starts[arc + 1])]
-            cuts = np.array(_spaced(places, chain_ends(places), side, tile_positions // 2), dtype=np.int64)
+            cuts = np.array(
+                _spaced(places, chain_ends(places), side, tile_positions // 2), dtype=np.int64
+            )
             cuts = cuts[lone.are_lone(places[cuts])] if len(cuts) else cuts
             firsts.append(start + cuts)
             lasts.append(start + cuts)
@@ -182,8 +184,7 @@ class Tiling:
 
     def result(self) -> tuple[Places, Integers]:
         """Give the arcs that are left."""
-        counted = np.concatenate(([0], np.cumsum(self.kept)))
-        return self.places[self.kept], counted[self.starts].astype(np.int64)
+        return self.places[self.kept], starts_of(self.kept)[self.starts]
 
     def arc_of_range(self, number: int) -> int:
         """Give the arc that a range is a part of."""
@@ -198,7 +199,9 @@ class Snapshot:
         self.alive = np.flatnonzero(tiling.kept)
         self.places = tiling.places[self.alive]
         arc = np.repeat(np.arange(len(tiling.starts) - 1), np.diff(tiling.starts))[self.alive]
-        self._is_edge = np.append(arc[1:] == arc[:-1], False) if len(arc) else np.zeros(0, dtype=bool)
+        self._is_edge = (
+            np.append(arc[1:] == arc[:-1], False) if len(arc) else np.zeros(0, dtype=bool)
+        )
         heads = np.arange(0, len(self.places), _BLOCK)
         low = np.minimum.reduceat(self.places, heads)
         high = np.maximum.reduceat(self.places, heads)
@@ -214,7 +217,8 @@ class Snapshot:
         edges = edges[self._is_edge[edges]]
         a, b = self.places[edges], self.places[edges + 1]
         meets = (np.minimum(a, b) <= high).all(axis=1) & (np.maximum(a, b) >= low).all(axis=1)
-        return edges[meets]
+        found: Integers = edges[meets]
+        return found
 
     def cut_out(self, tile: Tile) -> "CutOut":
         """Give the arcs of a tile: its own ranges, then the runs of other edges in its box."""
@@ -223,7 +227,7 @@ class Snapshot:
         own = np.isin(ranges, tile.ranges)
         label = np.where(own, ranges, -1)
         breaks = (np.diff(edges) != 1) | (label[1:] != label[:-1])
-        firsts = np.concatenate(([0], np.flatnonzero(breaks) + 1))
+        firsts = np.insert(np.flatnonzero(breaks) + 1, 0, 0)
         lasts = np.append(firsts[1:] - 1, len(edges) - 1)
         order = np.argsort(~own[firsts], kind="stable")
         owned = int(own[firsts].sum())
@@ -245,17 +249,20 @@ class CutOut:
     def fixed(self) -> Integers:
         """Give the second position of each context arc of three or more: a point there holds it."""
         counts = np.diff(self.starts)[self.owned :]
-        return self.at[self.starts[self.owned : -1][counts > 2] + 1]
+        found: Integers = self.at[self.starts[self.owned : -1][counts > 2] + 1]
+        return found
 
     def own_at(self) -> Integers:
         """Give the positions of the arcs that may be thinned."""
-        return self.at[: self.starts[self.owned]]
+        found: Integers = self.at[: self.starts[self.owned]]
+        return found
 
 
 def towns_in(towns: Places, box: Box) -> Places:
     """Give the towns in a closed box."""
     inside = (towns >= np.array(box[:2])).all(axis=1) & (towns <= np.array(box[2:])).all(axis=1)
-    return towns[inside]
+    found: Places = towns[inside]
+    return found
 
 
 def rounds(tiles: list[Tile]) -> Iterator[list[Tile]]:
@@ -293,7 +300,7 @@ def _side(places: Places, tiles: float) -> float:
 
 
 def _spaced(places: Places, ends: list[int], side: float, most: int) -> list[int]:
-    """Choose chain ends so that no range is longer than ``most`` or wider than ``side``, if it can."""
+    """Choose chain ends so that, if it can be, no range is longer or wider than said."""
     chosen: list[int] = []
     first = previous = 0
     low = high = places[0]

@@ -1,4 +1,4 @@
-"""A topology in memory: its arcs as flat arrays of places, its objects as they stand in the text."""
+"""A topology in memory: its arcs as flat arrays of places, its objects as they stand in a text."""
 
 import json
 import re
@@ -83,8 +83,7 @@ class Topology:
         fresh[self.starts[:-1]] = True
         if fresh.all():
             return self
-        counted = np.concatenate(([0], np.cumsum(fresh)))
-        return self.with_arcs(self.places[fresh], counted[self.starts])
+        return self.with_arcs(self.places[fresh], starts_of(fresh)[self.starts])
 
     def text(self) -> bytes:
         """Give the compact TopoJSON text."""
@@ -118,9 +117,10 @@ def polygons(objects: dict[str, Any]) -> Iterator[list[list[References]]]:
             yield geometry["arcs"]
 
 
-def starts_of(counts: Integers | list[int]) -> Integers:
+def starts_of(counts: Any) -> Integers:
     """Give the starts that belong to counts of positions."""
-    return np.concatenate(([0], np.cumsum(np.asarray(counts, dtype=np.int64)))).astype(np.int64)
+    sums = np.cumsum(np.asarray(counts, dtype=np.int64))
+    return np.insert(sums, 0, 0)
 
 
 def arcs_text(places: Places, starts: Integers, *, coded: bool = False) -> bytes:
@@ -284,4 +284,5 @@ def _whole_numbers(text: bytes, at: int) -> Integers:
 def _arc_firsts(opens: Integers, closes: Integers) -> Integers:
     """Give the places of the brackets that open an arc: those at depth 2."""
     depth = 1 + np.arange(len(opens)) - np.searchsorted(closes, opens)
-    return opens[depth == 2]
+    firsts: Integers = opens[depth == 2]
+    return firsts

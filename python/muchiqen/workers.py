@@ -1,6 +1,7 @@
 """Runs the tiles of a round: what one worker does, and the pools of workers."""
 
 import json
+import logging
 import os
 import resource
 from collections.abc import Callable, Iterable, Iterator
@@ -52,9 +53,7 @@ def thin_tile(task: Task) -> Answer:
     verdict, held = None, []
     if task.certify:
         certificate = command.layers(text, task.bound, hold=True, weights=task.weights)
-        verdict = command.check(
-            text, out, certificate, task.bound, hold=True, weights=task.weights
-        )
+        verdict = command.check(text, out, certificate, task.bound, hold=True, weights=task.weights)
         held = [arc for arc in json.loads(certificate)["held"] if arc < task.owned]
     after = read(out)
     kept = kept_positions(
@@ -120,7 +119,10 @@ class Pool(Protocol):
         """Start the workers."""
 
     def __exit__(
-        self, kind: type[BaseException] | None, error: BaseException | None, trace: TracebackType | None
+        self,
+        kind: type[BaseException] | None,
+        error: BaseException | None,
+        trace: TracebackType | None,
     ) -> None:
         """End the workers that were started here."""
 
@@ -157,7 +159,10 @@ class Processes:
         return self
 
     def __exit__(
-        self, kind: type[BaseException] | None, error: BaseException | None, trace: TracebackType | None
+        self,
+        kind: type[BaseException] | None,
+        error: BaseException | None,
+        trace: TracebackType | None,
     ) -> None:
         self._pool.shutdown(cancel_futures=True)
 
@@ -169,17 +174,20 @@ class Dask:
         self, client: Any, workers: int | None, work: Callable[[Task], Answer] = thin_tile
     ) -> None:
         self._client, self._own, self._workers = client, client is None, workers
+        self._cluster: Any = None
         self._work = work
 
     def __enter__(self) -> "Dask":
         if self._own:
-            from distributed import Client
+            from distributed import Client, LocalCluster
 
-            self._client = Client(
+            self._cluster = LocalCluster(
                 n_workers=self._workers or os.cpu_count(),
                 threads_per_worker=1,
                 dashboard_address=None,
+                silence_logs=logging.CRITICAL,
             )
+            self._client = Client(self._cluster)
         return self
 
     def run(self, tasks: Iterable[Task]) -> Iterator[Answer]:
@@ -201,10 +209,14 @@ class Dask:
                 raise WorkerLost(futures[future.key][1], MOST_TRIES) from error
 
     def __exit__(
-        self, kind: type[BaseException] | None, error: BaseException | None, trace: TracebackType | None
+        self,
+        kind: type[BaseException] | None,
+        error: BaseException | None,
+        trace: TracebackType | None,
     ) -> None:
         if self._own:
             self._client.close()
+            self._cluster.close()
 
 
 def pool_for(client: Any, workers: int | None) -> Pool:
