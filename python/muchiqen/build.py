@@ -141,10 +141,12 @@ def confirm(topology: Topology, rings: list[References], wanted: Snapped) -> Non
     """
     if len(rings) != len(wanted.starts) - 1:
         raise NotConfirmed(f"the topology has {len(rings)} rings")
+    keys = Topology(keys_of(topology.places), topology.starts)
+    all_wanted = keys_of(wanted.places)
+    cuts = wanted.starts.tolist()
     for number, references in enumerate(rings):
-        low, high = wanted.starts[number], wanted.starts[number + 1]
         if not _is_turned(
-            keys_of(ring_places(topology, references)), keys_of(wanted.places[low:high])
+            ring_places(keys, references), all_wanted[cuts[number] : cuts[number + 1]]
         ):
             raise NotConfirmed(f"ring {number} of the topology is not that of the coverage")
 
@@ -152,7 +154,8 @@ def confirm(topology: Topology, rings: list[References], wanted: Snapped) -> Non
 def _is_turned(found: Integers, wanted: Integers) -> bool:
     if len(found) != len(wanted):
         return False
-    for at in np.flatnonzero(wanted == found[0]):
-        if np.array_equal(found, np.roll(wanted, -at)):
+    for at in np.flatnonzero(wanted == found[0]).tolist():
+        rest = len(wanted) - at
+        if (found[:rest] == wanted[at:]).all() and (found[rest:] == wanted[:at]).all():
             return True
     return False

@@ -12,7 +12,7 @@ from shapely.ops import polygonize
 
 from .build import ring_places
 from .grid import Coordinates, Places
-from .topology import Integers, References, Topology, polygons
+from .topology import Integers, References, Topology, polygons, within
 
 
 def area_twice(places: Places) -> int:
@@ -85,19 +85,24 @@ def holders(
     an odd number of times: the rule of the command's ``faces``.
     """
     order = np.argsort(points[:, 0], kind="stable")
-    odd = _odd_lines(coordinates, starts, points[order])
+    lines, odd = _odd_pairs(coordinates, starts, points[order])
+    row = np.repeat(np.arange(len(rows)), [len(named) for named in rows])
+    named = np.array([line for one in rows for line in one], dtype=np.int64)
+    first, last = np.searchsorted(lines, named), np.searchsorted(lines, named, "right")
+    counts = last - first
+    hit = odd[np.repeat(first, counts) + within(counts)]
+    keys, times = np.unique(order[hit] * len(rows) + np.repeat(row, counts), return_counts=True)
     found: list[list[int]] = [[] for _ in points]
-    for number, row in enumerate(rows):
-        hits = [odd[line] for line in row if line in odd]
-        if hits:
-            at, counts = np.unique(np.concatenate(hits), return_counts=True)
-            for point in order[at[counts % 2 == 1]]:
-                found[point].append(number)
+    for key in keys[times % 2 == 1].tolist():
+        found[key // len(rows)].append(key % len(rows))
     return found
 
 
-def _odd_lines(coordinates: Any, starts: Integers, points: Any) -> dict[int, npt.NDArray[np.int64]]:
-    """Give for each line the points (sorted by x) from which it is crossed an odd time."""
+def _odd_pairs(coordinates: Any, starts: Integers, points: Any) -> tuple[Integers, Integers]:
+    """Give the lines, rising, and beside each a point from which it is crossed an odd time.
+
+    The points are sorted by x.
+    """
     line = np.repeat(np.arange(len(starts) - 1), np.diff(starts))
     edges = np.flatnonzero(line[1:] == line[:-1])
     a, b = _ordered(coordinates[edges], coordinates[edges + 1])
@@ -106,17 +111,12 @@ def _odd_lines(coordinates: Any, starts: Integers, points: Any) -> dict[int, npt
     pieces = [np.empty(0, dtype=np.int64)]
     for low, high in _chunks(counts):
         edge = np.repeat(np.arange(low, high), counts[low:high])
-        skipped = np.cumsum(counts[low:high]) - counts[low:high]
-        point = np.arange(len(edge)) + np.repeat(first[low:high] - skipped, counts[low:high])
+        point = np.repeat(first[low:high], counts[low:high]) + within(counts[low:high])
         hit = _is_crossed(a[edge], b[edge], points[point])
         pieces.append(line[edges[edge[hit]]] * len(points) + point[hit])
     pairs, times = np.unique(np.concatenate(pieces), return_counts=True)
     odd = pairs[times % 2 == 1]
-    lines, points_hit = odd // max(len(points), 1), odd % max(len(points), 1)
-    cuts = np.flatnonzero(np.diff(lines)) + 1
-    groups = np.split(points_hit, cuts) if len(odd) else []
-    heads = lines[np.insert(cuts, 0, 0)].tolist() if len(odd) else []
-    return dict(zip(heads, groups, strict=True))
+    return odd // max(len(points), 1), odd % max(len(points), 1)
 
 
 def _ordered(a: Any, b: Any) -> tuple[Any, Any]:

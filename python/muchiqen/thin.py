@@ -6,6 +6,7 @@ import os
 from collections.abc import Sequence
 from dataclasses import dataclass, field, replace
 from decimal import ROUND_FLOOR, Decimal
+from functools import cached_property
 from pathlib import Path
 from typing import Any
 
@@ -18,7 +19,7 @@ from . import coverage as cover
 from . import grid as grids
 from . import survey
 from .command import MOST_BOUND, MOST_BYTES, MOST_RING_POSITIONS, Command, Weights, checked_weights
-from .errors import ArcsMeet, NotACoverage, NotConfirmed, NotRead, PointOnArc
+from .errors import ArcsMeet, BadGrid, NotACoverage, NotConfirmed, NotRead, PointOnArc
 from .frames import frame_of, polygon_object, rings_of_rows, rows_of
 from .grid import Coordinates, Grid, Places
 from .meetings import Held, why_held
@@ -47,8 +48,8 @@ class Thinned:
 
     ``frame`` has the rows, the index, the attributes and the CRS of the coverage. ``source`` is
     the TopoJSON text that was thinned and ``text`` what the command made of it; ``before`` and
-    ``after`` are the same, read. ``towns`` are the towns on the grid, ``certificate`` is that of
-    the run. ``words`` are the options and the bound, as the command takes them.
+    ``after`` are the same, read. ``work`` is the coverage as it was made ready, ``certificate`` is
+    that of the run, ``words`` are the options and the bound as the command takes them.
     """
 
     frame: gpd.GeoDataFrame
@@ -57,9 +58,14 @@ class Thinned:
     text: bytes
     before: Topology
     after: Topology
-    towns: gpd.GeoDataFrame | None = None
+    work: "Work"
     certificate: bytes | None = None
     words: list[str] = field(default_factory=list)
+
+    @cached_property
+    def towns(self) -> gpd.GeoDataFrame | None:
+        """The towns on the grid, None where there are none."""
+        return self.work.town_frame()
 
     @property
     def verdict(self) -> str | None:
@@ -150,7 +156,7 @@ def simplify(
         out,
         work.topology,
         after,
-        towns=work.town_frame(),
+        work=work,
         certificate=certificate,
         words=[*words, str(work.bound)],
     )
@@ -324,7 +330,10 @@ def grid_of(
     if isinstance(grid, Grid):
         return grid
     if grid is not None:
-        return Grid((float(grid), float(grid)))
+        try:
+            return Grid((float(grid), float(grid)))
+        except (TypeError, ValueError) as error:
+            raise BadGrid(f"step {grid!r} is no number above zero") from error
     return grids.choose(coordinates, tolerance, max(weights or (1, 1)))
 
 
@@ -531,10 +540,8 @@ def _after_notes(work: Work, frame: gpd.GeoDataFrame) -> list[str]:
     bad = survey.invalid_rows(frame)
     if not bad:
         return []
-    before = set(
-        survey.invalid_rows(work.frame if work.frame is not None else work.rows_of(work.topology))
-    )
-    snapped = set(survey.invalid_rows(work.rows_of(work.topology)))
+    snapped = set(survey.invalid_rows(work.rows_of(work.topology).loc[bad]))
+    before = snapped if work.frame is None else set(survey.invalid_rows(work.frame.loc[bad]))
     fresh = [label for label in bad if label not in snapped]
     if fresh:
         raise NotConfirmed(f"rows {fresh[:5]} are valid before thinning and not after")

@@ -13,7 +13,7 @@ import numpy.typing as npt
 from .build import keys_of
 from .command import Weights
 from .grid import Places
-from .topology import Integers, Topology, arcs_text, starts_of
+from .topology import Integers, Topology, arcs_text, starts_of, within
 
 MOST_CHAIN_EDGES = 1_023
 """A chain has at most so many edges."""
@@ -96,6 +96,7 @@ class Tiling:
         self.starts = topology.starts
         self.towns = topology.points()
         self.kept = np.ones(len(self.places), dtype=bool)
+        self._lone = _LonePlaces(self.places)
         self.range_low, self.range_high = self._cut(tile_positions)
         self.range_of = np.full(len(self.places), -1, dtype=np.int32)
         self._number_ranges()
@@ -110,7 +111,6 @@ class Tiling:
         high = np.maximum.reduceat(self.places, self.starts[arcs]) if len(arcs) else self.places[:0]
         wide = ((high - low).max(axis=1) > side) if len(arcs) else np.zeros(0, dtype=bool)
         long = arcs[wide | (counts[arcs] > tile_positions // 2)]
-        lone = _LonePlaces(self.places)
         firsts, lasts = [self.starts[arcs]], [self.starts[arcs + 1] - 1]
         for arc in long:
             start = int(self.starts[arc])
@@ -118,14 +118,14 @@ class Tiling:
             cuts = np.array(
                 _spaced(places, chain_ends(places), side, tile_positions // 2), dtype=np.int64
             )
-            cuts = cuts[lone.are_lone(places[cuts])] if len(cuts) else cuts
+            cuts = cuts[self._lone.are_lone(places[cuts])] if len(cuts) else cuts
             firsts.append(start + cuts)
             lasts.append(start + cuts)
         return np.sort(np.concatenate(firsts)), np.sort(np.concatenate(lasts))
 
     def _number_ranges(self) -> None:
         counts = self.range_high - self.range_low
-        at = np.repeat(self.range_low, counts) + _within(counts)
+        at = np.repeat(self.range_low, counts) + within(counts)
         self.range_of[at] = np.repeat(np.arange(len(counts)), counts).astype(np.int32)
 
     def _deal(self, tile_positions: int) -> list[Tile]:
@@ -140,7 +140,7 @@ class Tiling:
 
     def _range_boxes(self) -> tuple[Places, Places]:
         counts = self.range_high - self.range_low + 1
-        at = np.repeat(self.range_low, counts) + _within(counts)
+        at = np.repeat(self.range_low, counts) + within(counts)
         firsts = starts_of(counts)[:-1]
         rows = self.places[at]
         return np.minimum.reduceat(rows, firsts), np.maximum.reduceat(rows, firsts)
@@ -151,7 +151,7 @@ class Tiling:
         return Tile(np.sort(group), (int(x0), int(y0), int(x1), int(y1)))
 
     def parts_of(self, tile: Tile) -> list[Tile]:
-        """Give two tiles for one whose text is too large; a lone range is cut in its middle.
+        """Give two tiles for one whose text is too large; a range alone is cut in two.
 
         Gives none where nothing is left that could be thinned.
         """
@@ -165,7 +165,7 @@ class Tiling:
         first, last = int(self.range_low[number]), int(self.range_high[number])
         if last - first < 2:
             return []
-        middle = (first + last) // 2
+        middle = first + self._middle(self.places[first : last + 1])
         self.range_high[number] = middle
         self.range_low = np.append(self.range_low, middle)
         self.range_high = np.append(self.range_high, last)
@@ -173,6 +173,16 @@ class Tiling:
         self.cut_arcs += 1
         low, high = self._range_boxes()
         return [self._tile(np.array([at]), low, high) for at in (number, len(self.range_low) - 1)]
+
+    def _middle(self, places: Places) -> int:
+        """Give the chain end nearest the middle, a lone one if there is one, else the middle."""
+        middle = (len(places) - 1) // 2
+        ends = np.array(chain_ends(places), dtype=np.int64)
+        if not len(ends):
+            return middle
+        lone = ends[self._lone.are_lone(places[ends])]
+        chosen = lone if len(lone) else ends
+        return int(chosen[np.abs(chosen - middle).argmin()])
 
     def snapshot(self) -> "Snapshot":
         """Give the map as it is, with an index of its edges."""
@@ -233,7 +243,7 @@ class Snapshot:
         owned = int(own[firsts].sum())
         start = edges[firsts][order]
         counts = edges[lasts][order] - start + 2
-        at = np.repeat(start, counts) + _within(counts)
+        at = np.repeat(start, counts) + within(counts)
         return CutOut(at, starts_of(counts), owned, label[firsts][order][:owned])
 
 
@@ -282,13 +292,6 @@ def take_round(waiting: list[Tile]) -> tuple[list[Tile], list[Tile]]:
         apart = all(tile.is_apart(other) for other in taken)
         (taken if apart else left).append(tile)
     return taken, left
-
-
-def _within(counts: Integers) -> Integers:
-    """Give 0, 1, .. up to each count, one after the other."""
-    ends = np.cumsum(counts)
-    total = int(ends[-1]) if len(ends) else 0
-    return np.arange(total) - np.repeat(ends - counts, counts)
 
 
 def _side(places: Places, tiles: float) -> float:

@@ -123,6 +123,13 @@ def starts_of(counts: Any) -> Integers:
     return np.insert(sums, 0, 0)
 
 
+def within(counts: Integers) -> Integers:
+    """Give 0, 1, .. up to each count, one after the other."""
+    ends = np.cumsum(counts)
+    total = int(ends[-1]) if len(ends) else 0
+    return np.arange(total) - np.repeat(ends - counts, counts)
+
+
 def arcs_text(places: Places, starts: Integers, *, coded: bool = False) -> bytes:
     """Give the value of ``arcs``: absolute positions, or differences where ``coded``.
 

@@ -212,11 +212,23 @@ def test_a_killed_worker_of_dask_changes_nothing(
     program: Callable[[str], Path],
     tmp_path: Path,
 ) -> None:
-    pytest.importorskip("distributed")
+    distributed = pytest.importorskip("distributed")
     bad = killer(program, command, tmp_path / "mark")
-    again = muchiqen.simplify_large(made, 20, workers=2, tile_positions=2000, program=bad)
+    with distributed.LocalCluster(
+        n_workers=2, threads_per_worker=1, dashboard_address=None, silence_logs=50
+    ) as cluster, distributed.Client(cluster) as client:
+        again = muchiqen.simplify_large(made, 20, client, tile_positions=2000, program=bad)
+        assert client.status == "running"
     assert (tmp_path / "mark").exists()
     assert again.after.text() == in_tiles.after.text()
+
+
+def test_a_cluster_of_its_own_is_ended(command: Command) -> None:
+    pytest.importorskip("distributed")
+    text = command.make(3, 3, 7)
+    thinned = muchiqen.simplify_large(text, 20, workers=1, tile_positions=200, program=command)
+    assert command.faces(thinned.after.text()) == command.faces(text)
+    assert thinned.report.confirmed == thinned.report.tiles > 1
 
 
 def test_an_error_of_the_command_comes_through(made: bytes, program: Callable[[str], Path]) -> None:

@@ -205,6 +205,31 @@ def test_coordinates_are_finite(command: Command) -> None:
         muchiqen.simplify(gpd.GeoDataFrame(geometry=[bad]), 1, program=command)
 
 
+def test_any_index_and_any_name_of_the_geometry(
+    command: Command, two_rows: gpd.GeoDataFrame
+) -> None:
+    frame = two_rows.rename_geometry("shape")
+    frame["centre"] = frame.centroid
+    frame.index = pd.Index(["same", "same"])
+    thinned = muchiqen.simplify(frame, 1, program=command).frame
+    assert thinned.index.tolist() == ["same", "same"]
+    assert thinned.geometry.name == "shape"
+    assert thinned["centre"].equals(frame["centre"])
+    assert [len(row.exterior.coords) for row in thinned["shape"]] == [5, 5]
+
+
+def test_no_rows_are_no_fault(command: Command, two_rows: gpd.GeoDataFrame) -> None:
+    thinned = muchiqen.simplify(two_rows.iloc[:0], 1, certify=True, program=command)
+    assert len(thinned.frame) == 0
+    assert thinned.verdict == "yes"
+
+
+@pytest.mark.parametrize("grid", [0, -1, float("nan"), "wide", 1e-12])
+def test_bad_grids(command: Command, two_rows: gpd.GeoDataFrame, grid: float) -> None:
+    with pytest.raises(errors.BadGrid):
+        muchiqen.simplify(two_rows, 1, grid=grid, program=command)
+
+
 def test_no_crs_is_told(command: Command, two_rows: gpd.GeoDataFrame) -> None:
     plain = gpd.GeoDataFrame(geometry=list(two_rows.geometry))
     assert "no CRS" in notes(muchiqen.simplify(plain, 1, program=command))
