@@ -158,7 +158,7 @@ def _without_repeats(places: Places, starts: Integers) -> npt.NDArray[np.bool_]:
 
 def _walks_there_and_back(places: Places, starts: Integers) -> npt.NDArray[np.bool_]:
     """Tell which rings of four places go along one edge, there and back, and back there again."""
-    flat = np.diff(starts) == 4
+    flat: npt.NDArray[np.bool_] = np.diff(starts) == 4
     first = starts[:-1][flat]
     same = [(places[first + at] == places[first + at + 2]).all(axis=1) for at in (0, 1)]
     flat[flat] = same[0] & same[1]

@@ -166,7 +166,8 @@ class _Run:
         tasks, cuts, more = [], {}, []
         for tile in tiles:
             cut = snapshot.cut_out(tile)
-            if len(cut.at) > _MOST_IN_TILE:
+            points = len(cut.fixed()) + len(towns_in(self.tiling.towns, tile.box))
+            if max(len(cut.at), points) > _MOST_IN_TILE:
                 more += self.tiling.parts_of(tile)
                 continue
             number = self._report.tiles

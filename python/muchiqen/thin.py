@@ -18,7 +18,15 @@ from . import build as own_build
 from . import coverage as cover
 from . import grid as grids
 from . import survey
-from .command import MOST_BOUND, MOST_BYTES, MOST_RING_POSITIONS, Command, Weights, checked_weights
+from .command import (
+    MOST_BOUND,
+    MOST_BYTES,
+    MOST_POSITIONS,
+    MOST_RING_POSITIONS,
+    Command,
+    Weights,
+    checked_weights,
+)
 from .errors import ArcsMeet, BadGrid, NotACoverage, NotConfirmed, NotRead, PointOnArc
 from .frames import frame_of, polygon_object, rings_of_rows, rows_of
 from .grid import Coordinates, Grid, Places
@@ -378,7 +386,10 @@ def make_topology(
     compared: NotConfirmed where one differs.
     """
     built_by = "muchiqen"
-    if len(snapped.places) + len(snapped.starts) <= MOST_RING_POSITIONS and command.has_build():
+    fits = len(snapped.places) + len(snapped.starts) <= MOST_RING_POSITIONS
+    count = 0 if towns is None else len(towns)
+    fits = fits and max(len(snapped.rows), count) < MOST_POSITIONS
+    if fits and command.has_build():
         text = cover.geojson(snapped, towns)
         if len(text) <= MOST_BYTES:
             topology, built_by = read(command.build(text)), "build"

@@ -1,5 +1,6 @@
 """Drives a headless Chromium over its DevTools pipe: no library and no port is wanted."""
 
+import fcntl
 import json
 import os
 import shutil
@@ -18,8 +19,11 @@ class Page:
 
     def __init__(self, program: str, address: str) -> None:
         self._folder = tempfile.TemporaryDirectory(ignore_cleanup_errors=True)
-        down, self._out = os.pipe()
-        self._in, up = os.pipe()
+        (low_down, self._out), (self._in, low_up) = os.pipe(), os.pipe()
+        # The browser reads at 3 and writes at 4, so ours are kept clear of these.
+        down, up = fcntl.fcntl(low_down, fcntl.F_DUPFD, 10), fcntl.fcntl(low_up, fcntl.F_DUPFD, 10)
+        os.close(low_down)
+        os.close(low_up)
         words = [
             "--headless=new",
             "--no-sandbox",

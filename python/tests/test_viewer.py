@@ -69,7 +69,10 @@ def page(
         pytest.skip("no chromium")
     path: Path = tmp_path_factory.mktemp("view") / "view.html"
     path.write_text(view_page(*texts, title="Lakeland"), encoding="utf-8")
-    shown = browser.Page(program, path.as_uri())
+    try:
+        shown = browser.Page(program, path.as_uri())
+    except RuntimeError as error:
+        pytest.skip(f"chromium does not start here: {error}")
     yield shown
     shown.close()
 
