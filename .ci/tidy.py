@@ -25,6 +25,7 @@ CODE = re.compile(r"`([^`]+)`")
 CLAUSES = re.compile(r"\(((?:`\w+`(?:, )?)+)\)")
 WORD = re.compile(r"[A-Za-z_][A-Za-z0-9_]*")
 IMPL = re.compile(r"^impl(?:<[^>]*>)? (\w+)[^{]*\{(.*?)^\}", re.MULTILINE | re.DOTALL)
+TRAIT = re.compile(r"^pub trait (\w+)[^{]*\{(.*?)^\}", re.MULTILINE | re.DOTALL)
 EXPORT = re.compile(r"^pub use (?:crate::)?\w+::(?:\{([^}]*)\}|(\w+));", re.MULTILINE)
 
 
@@ -145,21 +146,20 @@ def links() -> Iterator[str]:
                     yield f"{shown(page)}: no heading {target}"
 
 
-def words_of(name: str, folder: str, suffix: str) -> set[str]:
-    """All words of a crate's files of one kind."""
-    words: set[str] = set()
-    for path in (TOP / "crates" / name / folder).rglob(f"*{suffix}"):
-        words.update(WORD.findall(path.read_text()))
-    return words
+def code_of(name: str) -> str:
+    """The code of a crate."""
+    paths = sorted((TOP / "crates" / name / "src").rglob("*.rt"))
+    return "\n".join(path.read_text() for path in paths)
 
 
-def named_calls(text: str) -> Iterator[str]:
-    """The calls that the first cells of a table name, and the clauses in brackets."""
-    for row in text.splitlines():
-        if row.startswith("| `"):
-            yield from CODE.findall(row.split(" | ")[0])
-    for clauses in CLAUSES.findall(text):
-        yield from CODE.findall(clauses)
+def calls_of(code: str) -> set[str]:
+    """What a crate's code declares for others: functions, types, `Type::call`, `Trait::call`."""
+    found = set(re.findall(r"^pub (?:fn|struct|enum|trait) (\w+)", code, re.MULTILINE))
+    for kind, body in IMPL.findall(code):
+        found.update(f"{kind}::{call}" for call in re.findall(r"^    pub fn (\w+)", body, re.M))
+    for kind, body in TRAIT.findall(code):
+        found.update(f"{kind}::{call}" for call in re.findall(r"^    fn (\w+)", body, re.M))
+    return found
 
 
 def handed_out(name: str) -> list[str]:
@@ -167,27 +167,49 @@ def handed_out(name: str) -> list[str]:
     root = TOP / "crates" / name / "src" / "lib.rt"
     if not root.exists():
         return []
-    code = "\n".join(path.read_text() for path in root.parent.rglob("*.rt"))
     named = [word for pair in EXPORT.findall(root.read_text()) for word in pair]
     words = [word for part in named for word in WORD.findall(part)]
-    called = {kind for kind, body in IMPL.findall(code) if "\n    pub fn" in body}
+    called = {call.split("::")[0] for call in calls_of(code_of(name)) if "::" in call}
     return [word for word in words if word[0].islower() or word in called]
 
 
-def promises() -> Iterator[str]:
-    """What PROMISES.md names under a crate stands in that crate, and it names each call."""
-    text = (TOP / "docs/PROMISES.md").read_text()
+def in_sections(text: str) -> Iterator[tuple[list[str], str, str]]:
+    """Each section on crates: the crates, the calls of its table's first cells, the whole."""
     parts = SECTION.split(text)[1:]
     for heading, body in zip(parts[::2], parts[1::2]):
-        known: set[str] = set()
-        for name in CODE.findall(heading):
-            known |= words_of(name, "src", ".rt")
+        rows = [row for row in body.splitlines() if row.startswith("| `")]
+        yield CODE.findall(heading), " ".join(row.split(" | ")[0] for row in rows), body
+
+
+def by_promise(text: str) -> Iterator[tuple[str, str]]:
+    """Each crate of the table of promises with the calls that are named there."""
+    for part in re.findall(r"`(\w+)`: ([^;|]*)", text):
+        yield part
+
+
+def promises() -> Iterator[str]:
+    """What PROMISES.md names of a crate stands in that crate, and it names each call."""
+    text = (TOP / "docs/PROMISES.md").read_text()
+    for names, cells, body in in_sections(text):
+        code = "\n".join(code_of(name) for name in names)
+        known, words = calls_of(code), set(WORD.findall(code))
+        for call in CODE.findall(cells):
+            if call not in known:
+                yield f"docs/PROMISES.md, {names[0]}: no `{call}` in the code"
+        for clauses in CLAUSES.findall(body):
+            for clause in CODE.findall(clauses):
+                if clause not in words:
+                    yield f"docs/PROMISES.md, {names[0]}: no `{clause}` in the code"
+        for name in names:
             for call in handed_out(name):
                 if call not in WORD.findall(body):
-                    yield f"docs/PROMISES.md, {heading}: nothing on `{call}`"
-        for call in named_calls(body):
-            if not known.issuperset(WORD.findall(call)):
-                yield f"docs/PROMISES.md, {heading}: no `{call}` in the code"
+                    yield f"docs/PROMISES.md, {names[0]}: nothing on `{call}`"
+    table = text.partition("\n## Promise by promise")[2].partition("\n## ")[0]
+    for name, cells in by_promise(table):
+        known = calls_of(code_of(name)) | set(WORD.findall(code_of(name)))
+        for call in CODE.findall(cells):
+            if call not in known:
+                yield f"docs/PROMISES.md, promise by promise: {name} has no `{call}`"
 
 
 def wide() -> str:
