@@ -9,11 +9,11 @@ use Rattle.grid_exact.specs.Walks.{EachEdge, end_of}
 use Rattle.arc_map.specs.Map.{Map}
 use Rattle.arc_map.specs.Vertices.{Vertex, places}
 use Rattle.arc_map.specs.Allowed.{IsPath}
-use Rattle.arc_map.specs.Arcs.{vertex, vertices_from, IsCutInto, IsListCutInto, AreChainsOf, chains_of_arc, chains_past_arc, joined_rests, joined_arc, arcs_now}
+use Rattle.arc_map.specs.Arcs.{vertex, vertices_from, IsCutInto, IsListCutInto, AreChainsOf, chains_of_arc, chains_past_arc, joined_rests, joined_arc, arcs_now, map_now}
 use Rattle.arc_map.specs.Arranged.{nowhere}
 use Rattle.arc_map.specs.Chains.{Chain}
 use Rattle.arc_map.specs.Edges.{EachOf}
-use Rattle.arc_map.specs.Work.{work_of, vertex_in, chain_in, LiesInArc}
+use Rattle.arc_map.specs.Work.{work_of, vertex_in, chain_in, AreChainsIn, LiesInArc}
 use Rattle.arc_map.specs.declared.refs.ChainRef.{ChainRef}
 use Rattle.monotone_split.proofs.Arranged.{of_both}
 use Rattle.monotone_split.proofs.Cuts.{parts_of_arc, parts_of_arcs}
@@ -263,19 +263,15 @@ ends_by_refs m arc numbers refs r each lies there same =
 
 -- ---- the law
 
-pub outcome_thins_arcs : OutcomeThinsArcs
-outcome_thins_arcs m t after records is =
-    let refs = is.refs in
+-- what is left of the chains of a map thins its arcs
+pub chains_thin_arcs : (t : Terms) (m : Map) (refs : List ChainRef) (ls : List Chain) → AreChainsIn m refs
+    → AllZip (IsLeftOf t) (map (chain_in m) refs) ls → ThinsArcs t m refs (map_now m ls)
+chains_thin_arcs t m refs ls chains left =
     let before = map (chain_in m) refs in
-    let ls = is.last.chains in
-    let count = length-map refs (chain_in m) in
-    let thins = thins_from t (work_of m refs) 0 (length refs) records is.last (omega arith) is.replaced in
-    let left = each_is_left t before ls thins.count thins.left in
     let each : (arc : ℕ) → arc < length m.arcs → ArcLeft t arc (get_or m.arcs arc []) (get_or (arcs_now 0 m.arcs ls) arc []) before = (λ arc below.
     let number : 0 + arc ≡ arc = omega arith in
-    subst (λ (n : ℕ). ArcLeft t n (get_or m.arcs arc []) (get_or (arcs_now 0 m.arcs ls) arc []) before) number (arcs_left t 0 m.arcs before ls is.chains.cut left arc below)) in
-    subst (λ (n : Map). ThinsArcs t m refs n) (sym is.made)
-    (record {
+    subst (λ (n : ℕ). ArcLeft t n (get_or m.arcs arc []) (get_or (arcs_now 0 m.arcs ls) arc []) before) number (arcs_left t 0 m.arcs before ls chains.cut left arc below)) in
+    record {
       count = count_now 0 m.arcs ls;
       arcs = λ arc below.
           let one = each arc below in
@@ -283,9 +279,17 @@ outcome_thins_arcs m t after records is =
             held = one.held;
             numbers = one.numbers;
             thinned = one.thinned;
-            chain_ends = λ r there same. ends_by_refs m arc one.numbers refs r one.ends (All-contains (LiesInArc m) refs r is.chains.lie there) there same;
+            chain_ends = λ r there same. ends_by_refs m arc one.numbers refs r one.ends (All-contains (LiesInArc m) refs r chains.lie there) there same;
           };
       points = refl;
       polygons = refl;
       coded = refl;
-    })
+    }
+
+pub outcome_thins_arcs : OutcomeThinsArcs
+outcome_thins_arcs m t after records is =
+    let refs = is.refs in
+    let count = length-map refs (chain_in m) in
+    let thins = thins_from t (work_of m refs) 0 (length refs) records is.last (omega arith) is.replaced in
+    let left = each_is_left t (map (chain_in m) refs) is.last.chains thins.count thins.left in
+    subst (λ (n : Map). ThinsArcs t m refs n) (sym is.made) (chains_thin_arcs t m refs is.last.chains is.chains left)

@@ -10,13 +10,15 @@ use Rattle.arc_map.specs.Work.{AreChainsIn, work_of}
 use Rattle.arc_map.specs.declared.refs.ChainRef.{ChainRef}
 use Rattle.cert_format.specs.Certificate.{Content}
 use Rattle.chain_replace.specs.Laws.{KeepsFaces}
+use Rattle.chain_replace.specs.Run.{Terms}
+use Rattle.chain_replace.specs.Thinned.{ThinsArcs}
 use Rattle.cert_checker.specs.Judged.{Demand, demand, AllowedIn, IsJudged, free_numbers, replaced}
 use Rattle.cert_checker.specs.Laws.{KeepsFewest}
 use Rattle.cert_checker.specs.declared.verdicts.Verdict.TheVariants.{Yes}
 use Rattle.topo_reader.specs.Reads.{TopologyRead}
 use Rattle.top_call.specs.declared.forms.Options.{Options}
 use Rattle.top_call.specs.Maps.{IsLoaded, scales_of}
-use Rattle.top_call.specs.Answers.{IsChecked, IsTextOf, text_with, version_of}
+use Rattle.top_call.specs.Answers.{IsChecked, IsTextOf, terms_of, text_with, version_of}
 use Rattle.top_call.specs.Reading.{Read}
 
 -- the records are of the chains with these numbers, and each keeps a path of allowed pairs of its chain with fewest vertices, in the map as
@@ -39,6 +41,16 @@ abbrev pub YesKeepsFaces : Type 0
 YesKeepsFaces = (d : Demand) (held : List ℕ) (m : Map) (refs : List ChainRef) (c : Content) (after : List Chain)
     → AreChainsIn m refs → IsMapArranged held m → IsJudged d held (work_of m refs) c Yes after → KeepsFaces held m (map_now m after)
 
+-- the bound, the weights and the held arcs
+abbrev pub terms_by : Demand → List ℕ → Terms
+terms_by d held = record { held = held; bound = d.bound; weights = d.weights }
+
+-- Where a certificate is judged Yes, the judged map has of each arc some places left, the first and the last and both ends of each of its
+-- chains among them, and each place that is skipped is near the edge that skips it; a held arc is unchanged, and so is all else.
+abbrev pub YesThinsArcs : Type 0
+YesThinsArcs = (d : Demand) (held : List ℕ) (m : Map) (refs : List ChainRef) (c : Content) (after : List Chain)
+    → AreChainsIn m refs → IsJudged d held (work_of m refs) c Yes after → ThinsArcs (terms_by d held) m refs (map_now m after)
+
 -- OUT is FILE with the arcs of another map, CERT is a certificate of it, and what the two have in common
 pub record AreRight (options : Options) (bound : ℤ) (read : Read) : Type 0 where
   pub topology : TopologyRead
@@ -48,6 +60,8 @@ pub record AreRight (options : Options) (bound : ℤ) (read : Read) : Type 0 whe
   pub written : text_with read.file topology after ≡ read.out
   pub refs : List ChainRef
   pub chains : AreChainsIn topology.map refs
+  -- the arcs are thinned within the bound, and all else is as it was
+  pub thins : ThinsArcs (terms_of options bound held) topology.map refs after
   -- the map is arranged beside the held arcs, and its faces stay
   pub faces : KeepsFaces held topology.map after
   -- and each chain has fewest vertices in the map as it was found

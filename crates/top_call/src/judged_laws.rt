@@ -1,5 +1,5 @@
 //! What a verdict Yes says, over the definitions alone, each as the contract of a function that does nothing.
-ghost use Rattle.top_call.specs.JudgedLaws.{CheckedYesAreRight, YesKeepsFaces, YesKeepsFewest};
+ghost use Rattle.top_call.specs.JudgedLaws.{CheckedYesAreRight, YesKeepsFaces, YesKeepsFewest, YesThinsArcs};
 
 /// Where a certificate is judged Yes, each of its records keeps a path of allowed pairs of its chain in the map as found, and no
 /// such path has fewer vertices.
@@ -13,7 +13,14 @@ pub fn yes_keeps_faces()
     ensures { YesKeepsFaces }
 {}
 
-/// Where the verdict of `check` is Yes, OUT is FILE with the arcs of a map of which the two laws above hold.
+/// Where a certificate is judged Yes, of each arc of the map some positions are left in the judged map: the first and the last and
+/// both ends of each of its chains are among them, each position that is skipped is within the bound of the edge that skips it, and
+/// a held arc is unchanged; the feature points and the polygons are as they were.
+pub fn yes_thins_arcs()
+    ensures { YesThinsArcs }
+{}
+
+/// Where the verdict of `check` is Yes, OUT is FILE with the arcs of a map of which the three laws above hold.
 pub fn checked_yes_are_right()
     ensures { CheckedYesAreRight }
 {}

@@ -19,7 +19,7 @@ mod verdict;
 mod words;
 
 pub use forms::{Options, Request};
-pub use judged_laws::{checked_yes_are_right, yes_keeps_faces, yes_keeps_fewest};
+pub use judged_laws::{checked_yes_are_right, yes_keeps_faces, yes_keeps_fewest, yes_thins_arcs};
 pub use laws::{
     answer_is_one, certified_is_short, check_answers_yes, faces_answers_alike, outcome_keeps_lines,
     records_are_judged_yes, simplified_checks_yes, simplified_is_short, simplified_keeps_lines,
