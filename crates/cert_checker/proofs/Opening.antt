@@ -20,7 +20,7 @@ use Rattle.arc_map.specs.Paths.{vertex_at}
 use Rattle.arc_map.specs.Vertices.{Vertex}
 use Rattle.arc_map.specs.Work.{Work}
 use Rattle.map_index.specs.IndexedMap.{AreItemsIn}
-use Rattle.map_index.specs.Items.{Owns}
+use Rattle.map_index.specs.Items.{IsOther, Owns}
 use Rattle.map_index.specs.Listing.{item_of}
 use Rattle.monotone_split.specs.Laws.{EndOfEdge}
 use Rattle.monotone_split.specs.Laws.EndOfEdge.{StartsAt as EdgeStart, EndsAt as EdgeEnd}
@@ -29,7 +29,7 @@ use Rattle.sweep_index.specs.Box.{is_from_to, is_in_box}
 use Rattle.sweep_index.specs.declared.index.Item.{Item}
 use Rattle.sweep_index.specs.declared.index.Owner.{Owner}
 use Rattle.sweep_index.specs.declared.index.Owner.TheVariants.{Town, Chain as OfChain}
-use Rattle.cert_checker.specs.Indexed.{IsDouble, IsOfOther, ItemLets}
+use Rattle.cert_checker.specs.Indexed.{IsDouble, ItemLets}
 use Rattle.cert_checker.specs.Open.{IsOpenPair, Joins}
 use Rattle.cert_checker.specs.Runs.{IsInBox, place_at, run_end, run_inner}
 use Rattle.cert_checker.proofs.Beyond.{IsOn, Over, Side, ToTheLeft, ToTheRight, Under, beyond_even, beyond_off}
@@ -100,7 +100,7 @@ outside_consistent low high first rest p some inside out =
 -- ---- items
 
 -- each owner's place does not change sides, where the items in the box do not
-owned_consistent : (w : Work) (found : List (ℕ × Item)) (k : ℕ) (low high first : Place) (rest : List Place) → AreItemsIn w low high found → 0 < length rest → All (IsInBox low high) (first ∷ rest) → All (ItemLets k first (run_inner rest) (run_end first rest)) found → (owner : Owner) (p : Place) → Owns w.chains w.read.points owner p → IsOfOther k owner → IsConsistent first (run_end first rest) (run_inner rest) p
+owned_consistent : (w : Work) (found : List (ℕ × Item)) (k : ℕ) (low high first : Place) (rest : List Place) → AreItemsIn w low high found → 0 < length rest → All (IsInBox low high) (first ∷ rest) → All (ItemLets k first (run_inner rest) (run_end first rest)) found → (owner : Owner) (p : Place) → Owns w.chains w.read.points owner p → IsOther k owner → IsConsistent first (run_end first rest) (run_inner rest) p
 owned_consistent w found k low high first rest are some inside lets owner p owns other = elim (in_or_outside low high p) [
   | inr out ↦ outside_consistent low high first rest p some inside out
   | inl box ↦
@@ -164,7 +164,7 @@ open_from_tests w found k i j low high first rest are clear items order within p
     let chains = w.chains in
     let points = w.read.points in
     let ps = chain_places (chain_at chains k) in
-    let owned : (owner : Owner) (p : Place) → Owns chains points owner p → IsOfOther k owner → IsConsistent (place_at ps i) (place_at ps j) (between (i + 1) j ps) p = λ owner p owns other.
+    let owned : (owner : Owner) (p : Place) → Owns chains points owner p → IsOther k owner → IsConsistent (place_at ps i) (place_at ps j) (between (i + 1) j ps) p = λ owner p owns other.
     subst (λ v. IsConsistent v (place_at ps j) (between (i + 1) j ps) p) parts.start
     (subst (λ x. IsConsistent first x (between (i + 1) j ps) p) parts.end
     (subst (λ us. IsConsistent first (run_end first rest) us p) parts.inner
@@ -186,7 +186,7 @@ tests_from_open w found k i j low high first rest edges items parts is_open =
     (subst (λ us. IsConsistent (place_at (chain_places (chain_at w.chains k)) i) (place_at (chain_places (chain_at w.chains k)) j) us e.1.at) (sym parts.inner)
     (owned e.1.owner e.1.at (items.only e.0 e.1 has) other)))) found (All-contains_itself found)
   where
-    owned : (owner : Owner) (p : Place) → Owns w.chains w.read.points owner p → IsOfOther k owner → IsConsistent (place_at (chain_places (chain_at w.chains k)) i) (place_at (chain_places (chain_at w.chains k)) j) (between (i + 1) j (chain_places (chain_at w.chains k))) p
+    owned : (owner : Owner) (p : Place) → Owns w.chains w.read.points owner p → IsOther k owner → IsConsistent (place_at (chain_places (chain_at w.chains k)) i) (place_at (chain_places (chain_at w.chains k)) j) (between (i + 1) j (chain_places (chain_at w.chains k))) p
     owned Town p owns other = All-contains (IsConsistent (place_at (chain_places (chain_at w.chains k)) i) (place_at (chain_places (chain_at w.chains k)) j) (between (i + 1) j (chain_places (chain_at w.chains k)))) w.read.points p is_open.towns owns
     owned (OfChain l) p owns other = All-contains (IsConsistent (place_at (chain_places (chain_at w.chains k)) i) (place_at (chain_places (chain_at w.chains k)) j) (between (i + 1) j (chain_places (chain_at w.chains k)))) (chain_places (chain_at w.chains l)) p (is_open.others l owns.0 other (edges l no_chain owns.0)).vertices owns.1
 

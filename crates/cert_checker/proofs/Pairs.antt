@@ -1,5 +1,5 @@
 -- Allowed pairs by their parts.
-use Rattle.std.proofs.Common.{◌≡◌, ◌∙◌, ◌↔◌, ◌+◌, ◌-◌, ◌<◌, ◌≤◌, ℕ, zero, suc, List, [], ◌∷◌, length, get_or, take, drop, sym, ap, subst, refl, arith, inl, inr, add-one}
+use Rattle.std.proofs.Common.{◌≡◌, ◌∙◌, ◌↔◌, ◌+◌, ◌-◌, ◌<◌, ◌≤◌, ℕ, zero, suc, List, [], ◌∷◌, length, get_or, sym, ap, subst, refl, arith, inl, inr, add-one}
 use Rattle.std.specs.Prelude.{All, Contains}
 use Rattle.std.specs.List.{between}
 use Rattle.std.proofs.lemmas.Bool.{cases_lt}
@@ -173,15 +173,6 @@ allowed_by_parts Near chains points k i j order within =
             subst (λ ps. Q (place_at (chain_places c) i) (place_at (chain_places c) j) ps) inner (subst (λ b. Q (place_at (chain_places c) i) b (places skipped)) end (subst (λ a. Q a w.place (places skipped)) start g))
       ],
     )
-
--- neighbours are allowed
-pub neighbours_allowed : (Near : Place → Place → Place → Type 0) (chains : List Chain) (points : List Place) (k i j : ℕ) → i + 1 ≡ j → IsAllowedPair Near chains points k i j
-neighbours_allowed Near chains points k i j next =
-    let none : j - (i + 1) ≡ 0 = omega arith in
-    Neighbours (none_between (i + 1) j (vertices_of (chain_at chains k)) none)
-  where
-    none_between : (a b : ℕ) (vs : List Vertex) → b - a ≡ 0 → between a b vs ≡ []
-    none_between a b vs e = ap (λ n. take n (drop a vs)) e
 
 -- the same for the run as a list
 pub allowed_by_run : (Near : Place → Place → Place → Type 0) (chains : List Chain) (points : List Place) (k i j : ℕ) (ps : List Place) (first : Place) (rest : List Place) → i + 1 < j → j ≤ length (chain_at chains k).rest → ps ≡ chain_places (chain_at chains k) → RunParts ps i j first rest → (All (λ p. Near first (run_end first rest) p) (run_inner rest) × IsOpen chains points k first (run_inner rest) (run_end first rest)) ↔ IsAllowedPair Near chains points k i j

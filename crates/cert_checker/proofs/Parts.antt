@@ -1,11 +1,8 @@
 -- The parts of a run of a chain: its ends, and what is between them, by places and by vertices.
-use Rattle.std.proofs.Common.{◌≡◌, ◌∙◌, ◌+◌, ◌-◌, ◌<◌, ◌≤◌, ℕ, List, [], ◌∷◌, ◌++◌, length, get_or, take, drop, map, sym, ap, refl, arith}
+use Rattle.std.proofs.Common.{◌≡◌, ◌∙◌, ◌+◌, ◌-◌, ◌<◌, ◌≤◌, ℕ, List, [], ◌∷◌, ◌++◌, length, get_or, take, drop, map, sym, ap, arith}
 use Rattle.std.specs.List.{between}
-use Rattle.std.proofs.lemmas.List.{append_assoc, drop-map, get_or_default, get_or-drop, get_or-take, get_or-map, length-drop, length-map, length-take-le, take-map, take_all, take_more, take-take}
+use Rattle.std.proofs.lemmas.List.{drop-map, get_or_default, get_or-drop, get_or-take, get_or-map, length-drop, length-map, length-take-le, take-map, take_all, take_more, take-take}
 use Rattle.grid_exact.specs.Geometry.{Place}
-use Rattle.grid_exact.specs.Crossing.{is_crossed}
-use Rattle.grid_exact.specs.Walks.{count_edges, is_odd, differ, end_of}
-use Rattle.grid_exact.proofs.Walks.{end_of-pushed, is_odd-pushed}
 use Rattle.arc_map.specs.Arranged.{nowhere}
 use Rattle.arc_map.specs.Chains.{Chain, chain_places}
 use Rattle.arc_map.specs.Paths.{vertex_at, vertices_of}
@@ -20,20 +17,10 @@ split_last first rest some =
     let all : length rest ≤ (length rest - 1) + 1 = omega arith in
     sym (take_all ((length rest - 1) + 1) rest all) ∙ take_more rest (length rest - 1) first last
 
-end_of-run : (first : Place) (rest : List Place) → 0 < length rest → end_of first rest ≡ run_end first rest
-end_of-run first rest some = ap (end_of first) (split_last first rest some) ∙ end_of-pushed first (run_inner rest) (run_end first rest)
-
 pub last_is_end : (first last : Place) (rest : List Place) → 0 < length rest → last ≡ get_or rest (length rest - 1) last → last ≡ run_end first rest
 last_is_end first last rest some read =
     let within : length rest - 1 < length rest = omega arith in
     read ∙ get_or_default rest (length rest - 1) last first within
-
--- the closed walk along the run and back
-pub closed_parity : (p first last : Place) (rest : List Place) → 0 < length rest → last ≡ get_or rest (length rest - 1) last → differ (is_odd (count_edges (is_crossed p) first rest)) (is_crossed p last first) ≡ is_odd (count_edges (is_crossed p) first (run_inner rest ++ run_end first rest ∷ first ∷ []))
-closed_parity p first last rest some read =
-    ap (λ q. differ (is_odd (count_edges (is_crossed p) first rest)) (is_crossed p q first)) (last_is_end first last rest some read ∙ sym (end_of-run first rest some))
-    ∙ sym (is_odd-pushed (is_crossed p) first rest first)
-    ∙ ap (λ ws. is_odd (count_edges (is_crossed p) first ws)) (ap (λ ws. ws ++ first ∷ []) (split_last first rest some) ∙ append_assoc (run_inner rest) (run_end first rest ∷ []) (first ∷ []))
 
 -- ---- a run as a part of a list
 
@@ -70,9 +57,6 @@ run_parts ps i j first order within read =
 
 pub between-map : {X Y : Type 0} (f : X → Y) (a b : ℕ) (xs : List X) → between a b (map f xs) ≡ map f (between a b xs)
 between-map f a b xs = ap (take (b - a)) (drop-map f a xs) ∙ take-map f (b - a) (drop a xs)
-
-pub chain_places-map : (k : Chain) → chain_places k ≡ map (λ v. v.place) (vertices_of k)
-chain_places-map k = refl
 
 pub place_of_vertex : (k : Chain) (i : ℕ) → i ≤ length k.rest → (vertex_at k i).place ≡ place_at (chain_places k) i
 place_of_vertex k i within =

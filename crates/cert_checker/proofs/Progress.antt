@@ -8,7 +8,7 @@ use Rattle.grid_exact.specs.Weights.{Scales}
 use Rattle.arc_map.specs.Chains.{Chain, chain_at}
 use Rattle.arc_map.specs.Paths.{vertices_at}
 use Rattle.arc_map.specs.Records.{Record}
-use Rattle.arc_map.specs.Work.{Work, thinned_work, work_of}
+use Rattle.arc_map.specs.Work.{thinned_work}
 use Rattle.arc_map.specs.declared.refs.ChainRef.{ChainRef}
 use Rattle.map_index.specs.MapIndex.{IsAsRead, no_ref}
 use Rattle.cert_checker.specs.Judged.{AreJudged, IsAccepted, IsFault, chain_spot, demand, free_chains, free_numbers, is_free, record_spot}
@@ -19,7 +19,6 @@ use Rattle.cert_checker.specs.declared.verdicts.Verdict.{Verdict}
 use Rattle.cert_checker.specs.declared.verdicts.Verdict.TheVariants.{Yes, No}
 use Rattle.cert_checker.proofs.Holding.{held_from_contains, is_held}
 use Rattle.cert_checker.proofs.Listed.{first_left, free_from, free_here, free_later, free_none}
-use Rattle.cert_checker.proofs.Reading.{chain_of_map}
 use Rattle.cert_checker.proofs.Thinned.{other_thinned}
 
 -- the numbers of the chains from number k on that are not held
@@ -117,7 +116,3 @@ judged_all before now entries bound weights e k way agree past version =
     way.onward version Yes now.work.chains
     (subst (λ cs. AreJudged (demand version bound weights) now.work.read.points now.work.chains (map (λ chain. chain.0) cs) e (drop e entries) Yes now.work.chains) (sym none)
     (subst (λ rs. AreJudged (demand version bound weights) now.work.read.points now.work.chains [] e rs Yes now.work.chains) (sym (drop_all e entries ended)) (refl, refl)))
-
--- a fresh map has its chains as read
-pub fresh_as_read : (w : Work) → w ≡ work_of w.read w.refs → (n : ℕ) → n < length w.refs → IsAsRead w n
-fresh_as_read w fresh n within = ap (λ (v : Work). chain_at v.chains n) fresh ∙ chain_of_map w.read w.refs n within

@@ -1,9 +1,8 @@
 -- One step more in the loops of the plain tests.
-use Rattle.std.proofs.Common.{◌≡◌, ◌∙◌, ◌↔◌, ◌+◌, ◌-◌, ◌<◌, ◌≤◌, ℕ, Bool, true, false, not, IsTrue, List, length, get_or, Some, sym, ap, subst, arith, inl, inr, refl}
-use Rattle.std.specs.Prelude.{All, slice_get}
+use Rattle.std.proofs.Common.{◌≡◌, ◌∙◌, ◌↔◌, ◌+◌, ◌-◌, ◌<◌, ◌≤◌, ℕ, Bool, true, false, not, IsTrue, List, length, get_or, sym, ap, subst, arith, inl, inr, refl}
+use Rattle.std.specs.Prelude.{All}
 use Rattle.std.proofs.lemmas.Bool.{cases_eq, false≢true, false_from_ne_true, not_from_false}
 use Rattle.std.proofs.lemmas.List.{get_or_default}
-use Rattle.std.proofs.lemmas.Option.{get_or_from_slice_get, slice_get_within}
 use Rattle.grid_exact.specs.Geometry.{Place}
 use Rattle.grid_exact.specs.Segments.{SameEnds}
 use Rattle.arc_map.specs.Arranged.{nowhere}
@@ -26,9 +25,6 @@ ruled_out false says e p = false≢true (says.1 p)
 -- not all elements have a property that this one has not
 pub fails_at : {X : Type 0} (P : X → Type 0) (xs : List X) (k : ℕ) (x : X) → k < length xs → x ≡ get_or xs k x → (P x → ⊥) → All P xs → ⊥
 fails_at P xs k x within read other all = other (subst P (sym read) (all k x within))
-
-pub fails_got : {X : Type 0} (P : X → Type 0) (xs : List X) (k : ℕ) (x : X) → slice_get xs k ≡ Some x → (P x → ⊥) → All P xs → ⊥
-fails_got P xs k x got other all = other (subst P (get_or_from_slice_get xs k x x got) (all k x (slice_get_within xs k x got)))
 
 -- ---- edges of a list of places
 

@@ -5,18 +5,12 @@ use Rattle.grid_exact.specs.Geometry.{Place}
 use Rattle.arc_map.specs.Allowed.{IsConsistent}
 use Rattle.arc_map.specs.Chains.{Chain, chain_at, chain_places, EndsAt}
 use Rattle.sweep_index.specs.declared.index.Item.{Item}
-use Rattle.sweep_index.specs.declared.index.Owner.{Owner}
-use Rattle.sweep_index.specs.declared.index.Owner.TheVariants.{Town, Chain as OfChain}
+use Rattle.map_index.specs.Items.{IsOther}
 use Rattle.cert_checker.specs.Open.{Joins}
-
--- it is a feature point, or of another chain than the chain number k
-abbrev pub IsOfOther : ℕ → Owner → Type 0
-IsOfOther k Town = Unit {0}
-IsOfOther k (OfChain l) = l ≢ k
 
 -- the item does not change sides where the run of the chain number k from v over the skipped places to w becomes the segment vw
 abbrev pub ItemLets : ℕ → Place → List Place → Place → ℕ × Item → Type 0
-ItemLets k v skipped w numbered = IsOfOther k numbered.1.owner → IsConsistent v w skipped numbered.1.at
+ItemLets k v skipped w numbered = IsOther k numbered.1.owner → IsConsistent v w skipped numbered.1.at
 
 -- the chain number l is another one than the chain number k, and is one edge between v and w
 pub record IsEdgeBetween (chains : List Chain) (k : ℕ) (v w : Place) (l : ℕ) : Type 0 where

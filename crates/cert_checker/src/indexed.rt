@@ -3,7 +3,7 @@
 ghost use Rattle.std.specs.Prelude.{◌≡◌, ◌≢◌, ◌<◌, ◌≤◌, ◌↔◌, All, IsTrue, length};
 ghost use Rattle.sweep_index.specs.Walk.{items_left};
 ghost use Rattle.arc_map.specs.Chains.{chain_at, IsClearIn};
-ghost use Rattle.cert_checker.specs.Indexed.{IsDouble, IsOfOther, ItemLets};
+ghost use Rattle.cert_checker.specs.Indexed.{IsDouble, ItemLets};
 ghost use Rattle.cert_checker.specs.Open.{IsOpenPair, Joins};
 ghost use Rattle.cert_checker.specs.Runs.{run_end, run_inner};
 
@@ -11,8 +11,8 @@ use crate::extent::Extent;
 use crate::plain::joins;
 use crate::sides::is_consistent;
 use grid_exact::Point;
-use map_index::IndexedMap;
-use sweep_index::{Owner, Walk};
+use map_index::{IndexedMap, is_other};
+use sweep_index::Walk;
 
 // Whether the feature points and all chains but the chain number `k`, which is clear, let its run between the vertices number
 // `i` and `j` become the segment between the two. Only what stands in the box round the run is looked at.
@@ -63,21 +63,11 @@ fn items_let(mut walk: Walk<'_>, k: u32, first: Point, rest: &[Point]) -> bool
     ensures { IsTrue result ↔ All (ItemLets k first (run_inner rest.now) (run_end first rest.now)) (items_left walk.entry) }
 {
     while let Some((_, item)) = walk.next() {
-        if is_of_other(item.owner, k) {
+        if is_other(item.owner, k) {
             if !is_consistent(first, rest, item.at) {
                 return false;
             }
         }
     }
     true
-}
-
-// Whether the item is a feature point, or of another chain than the chain number `k`.
-fn is_of_other(owner: Owner, k: u32) -> bool
-    ensures { IsTrue result ↔ IsOfOther k owner }
-{
-    match owner {
-        Owner::Town => true,
-        Owner::Chain(chain) => chain != k,
-    }
 }

@@ -1,7 +1,6 @@
 //! Whether a pair of a chain's vertices is allowed, by plain tests over the whole map.
 ghost use Rattle.std.specs.Prelude.{◌≡◌, ◌≢◌, ◌<◌, ◌≤◌, ◌↔◌, ℕ, All, IsTrue, length};
 ghost use Rattle.grid_exact.specs.Near.{weighted};
-ghost use Rattle.grid_exact.specs.Segments.{SameEnds};
 ghost use Rattle.grid_exact.specs.Weights.{StaysOnGrid};
 ghost use Rattle.arc_map.specs.Allowed.{IsConsistent};
 ghost use Rattle.arc_map.specs.Chains.{chain_at, chain_places, IsWithinBound};
@@ -11,7 +10,7 @@ ghost use Rattle.cert_checker.specs.Runs.{run_end, run_inner};
 
 use crate::sides::is_consistent;
 use arc_map::WorkMap;
-use grid_exact::{Bound, Point, Weights, within};
+use grid_exact::{Bound, Point, Weights, same_ends, within};
 
 /// Whether the pair of the vertices number `i` and `j` of chain number `k` is allowed: the edge between them may take the place
 /// of the run from one to the other. It is looked at all feature points and all other chains.
@@ -114,23 +113,9 @@ pub fn joins(chain: &[Point], v: Point, w: Point) -> bool
     ensures { IsTrue result ↔ Joins v w chain.now }
 {
     for at in 1..chain.len() {
-        if has_ends(v, w, chain[at - 1], chain[at]) {
+        if same_ends(v, w, chain[at - 1], chain[at]) {
             return true;
         }
     }
     false
-}
-
-// Whether the segments vw and ab have the same ends.
-pub fn has_ends(v: Point, w: Point, a: Point, b: Point) -> bool
-    ensures { IsTrue result ↔ SameEnds v w a b }
-{
-    is_pair(v, w, a, b) || is_pair(v, w, b, a)
-}
-
-// Whether v is a and w is b.
-fn is_pair(v: Point, w: Point, a: Point, b: Point) -> bool
-    ensures { IsTrue result ↔ ((v ≡ a) × (w ≡ b)) }
-{
-    v == a && w == b
 }

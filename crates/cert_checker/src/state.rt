@@ -23,14 +23,11 @@ use crate::verdicts::{Reason, Verdict};
 use arc_map::{ArcList, ArcMap, ChainRecord, ChainRef, NoMemory, RunRecords};
 use arrangement_check::Partly;
 use cert_format::Certificate;
-use grid_exact::{Bound, Point, Weights};
+use grid_exact::{Bound, MAX_CHAIN_VERTICES, Point, Weights};
 use map_index::IndexedMap;
 use monotone_split::split;
 use std::alloc::{AllocError, Global};
 use std::marker::Model;
-
-// How many vertices a chain has at most.
-const MOST_VERTICES: usize = 1024;
 
 /// A map with its held arcs, for which one certificate is judged. Contracts see the map at work, the held arcs, and the verdict, where
 /// one is given.
@@ -61,7 +58,7 @@ impl JudgeState {
         let held = copied(alloc, partly.held())?;
         let chains = split(alloc, partly.map())?;
         let map = IndexedMap::build(alloc, partly.into_map(), chains)?;
-        let weighted = Vec::with_capacity(alloc, MOST_VERTICES)?;
+        let weighted = Vec::with_capacity(alloc, MAX_CHAIN_VERTICES)?;
         Ok(JudgeState {
             map,
             held,

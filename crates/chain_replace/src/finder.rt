@@ -13,15 +13,13 @@ ghost use Rattle.chain_replace.specs.Finder.{AreAlike};
 use crate::terms::Terms;
 use crate::weigh::weigh;
 use arc_map::NoMemory;
+use grid_exact::MAX_CHAIN_VERTICES;
 use layer_paths::{Rows, layers, least_path};
 use map_index::IndexedMap;
 use shortcut_graph::{Ruler, fill};
 use side_wedge::Beside;
 use std::alloc::Global;
 use std::marker::Model;
-
-// How many places a chain has at most.
-const MOST_PLACES: usize = 1024;
 
 // The best path of the chain that was looked at last, with its layers, and the memory in which both are worked out. Contracts
 // see the two, and how many items the index of the map may have.
@@ -58,11 +56,11 @@ impl PathFinder {
         Ok(PathFinder {
             rows: rows(alloc)?,
             beside: Beside::with_room(alloc, items)?,
-            row: vec![in alloc; false; MOST_PLACES]?,
-            xs: vec![in alloc; 0; MOST_PLACES]?,
-            ys: vec![in alloc; 0; MOST_PLACES]?,
-            layers: vec![in alloc; 0; MOST_PLACES]?,
-            path: vec![in alloc; 0; MOST_PLACES]?,
+            row: vec![in alloc; false; MAX_CHAIN_VERTICES]?,
+            xs: vec![in alloc; 0; MAX_CHAIN_VERTICES]?,
+            ys: vec![in alloc; 0; MAX_CHAIN_VERTICES]?,
+            layers: vec![in alloc; 0; MAX_CHAIN_VERTICES]?,
+            path: vec![in alloc; 0; MAX_CHAIN_VERTICES]?,
             places: 0,
             kept: 0,
         })

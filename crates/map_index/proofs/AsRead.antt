@@ -1,5 +1,5 @@
 -- Chains as the map read has them.
-use Rattle.std.proofs.Common.{◌≡◌, ◌≢◌, ◌∙◌, ℕ, suc, ◌+◌, ◌-◌, ◌<◌, List, length, get_or, Contains, refl, ap, sym, subst, arith, get_or-set_other}
+use Rattle.std.proofs.Common.{◌≡◌, ◌∙◌, ℕ, suc, ◌+◌, ◌-◌, ◌<◌, List, length, get_or, Contains, refl, ap, sym, subst, arith}
 use Rattle.std.specs.List.{range_with_len}
 use Rattle.std.proofs.lemmas.List.{length-map, get_or-map, get_or_default}
 use Rattle.std.proofs.lemmas.List.FromFn.{length-range_with_len, get_or-map-range_with_len}
@@ -9,7 +9,7 @@ use Rattle.arc_map.specs.Map.{Map}
 use Rattle.arc_map.specs.Vertices.{Vertex}
 use Rattle.arc_map.specs.Chains.{Chain, no_chain, chain_places}
 use Rattle.arc_map.specs.Paths.{vertices_of, vertex_at}
-use Rattle.arc_map.specs.Work.{Work, chain_in, vertex_in, work_of, thinned_work}
+use Rattle.arc_map.specs.Work.{Work, chain_in, vertex_in, work_of}
 use Rattle.arc_map.specs.declared.refs.ChainRef.{ChainRef}
 use Rattle.map_index.specs.MapIndex.{no_ref, IsAsRead}
 use Rattle.map_index.proofs.Listed.{size}
@@ -22,10 +22,6 @@ pub all_as_read : (m : Map) (refs : List ChainRef) (w : Work) → w ≡ work_of 
 all_as_read m refs w is k below =
     let inside = subst (λ (v : Work). k < length v.chains) is below in
     subst (λ (v : Work). IsAsRead v k) (sym is) (as_read_at_first m refs k (omega (arith, inside, length-map refs (chain_in m))))
-
--- where one chain is thinned, the others stay as read
-pub as_read_stays : (w : Work) (k l : ℕ) (kept : List ℕ) → l ≢ k → IsAsRead w l → IsAsRead (thinned_work w k kept) l
-as_read_stays w k l kept other read = rw get_or-set_other read
 
 -- ---- the vertices of a chain as read
 

@@ -1,5 +1,5 @@
 -- One walk along a run of items beside the places that are kept of it.
-use Rattle.std.proofs.Common.{◌≡◌, ◌≢◌, ◌∙◌, ℕ, ◌+◌, ◌<◌, ◌≤◌, Bool, IsTrue, false, List, length, get_or, set, Contains, refl, inl, inr, sym, subst, arith, get_or-set_other, get_or-set_same}
+use Rattle.std.proofs.Common.{◌≡◌, ◌≢◌, ◌∙◌, ℕ, ◌+◌, ◌<◌, ◌≤◌, Bool, IsTrue, false, List, length, get_or, set, Contains, inl, inr, sym, subst, arith, get_or-set_other, get_or-set_same}
 use Rattle.std.specs.List.Sorted.{IsStrictlyIncreasing}
 use Rattle.std.proofs.lemmas.Bool.{cases_lt, false≢true}
 use Rattle.std.proofs.lemmas.List.{get_or_default}
@@ -14,9 +14,6 @@ pub record IsWalkedTo (kept : List ℕ) (i next : ℕ) : Type 0 where
   pub within : next ≤ length kept
   pub behind : (j : ℕ) → j < next → get_or kept j 0 < i
   pub ahead : (j : ℕ) → next ≤ j → j < length kept → i ≤ get_or kept j 0
-
-pub walk_starts : (kept : List ℕ) → IsWalkedTo kept 0 0
-walk_starts kept = record { within = omega arith; behind = λ j below. absurd (omega arith); ahead = λ j past below. omega arith }
 
 pub walk_passes : (kept : List ℕ) (i next : ℕ) → IsStrictlyIncreasing kept → IsWalkedTo kept i next → next < length kept → get_or kept next 0 ≡ i → IsWalkedTo kept (i + 1) (next + 1)
 walk_passes kept i next rising walked inside here = record {
@@ -51,9 +48,6 @@ not_kept kept i next rising walked other has =
     ]
 
 -- ---- the items
-
-pub nothing_dropped : (kept : List ℕ) (first : ℕ) (live : List Bool) → AreDropped kept first 0 live live
-nothing_dropped kept first live = record { only = λ at below is. absurd (omega arith); others = λ n keep. refl }
 
 pub one_kept : (kept : List ℕ) (first i : ℕ) (before now : List Bool) → Contains kept i → AreDropped kept first i before now → AreDropped kept first (i + 1) before now
 one_kept kept first i before now has so_far = record {

@@ -4,8 +4,10 @@
 mod index;
 mod indexed;
 mod listing;
+mod owners;
 
 pub use indexed::IndexedMap;
+pub use owners::is_other;
 
 #[cfg(test)]
 mod tests;

@@ -1,5 +1,5 @@
 -- Coordinates that are copied one place after another.
-use Rattle.std.proofs.Common.{◌≡◌, ℕ, ◌+◌, ◌<◌, inl, inr, ℤ, pos, List, [], ◌∷◌, ◌++◌, length, get_or, refl, sym, ap, subst, ◌∙◌, arith}
+use Rattle.std.proofs.Common.{◌≡◌, ℕ, ◌+◌, ◌<◌, inl, inr, ℤ, pos, List, [], ◌∷◌, ◌++◌, length, get_or, sym, ap, subst, ◌∙◌, arith}
 use Rattle.std.proofs.lemmas.Bool.{cases_lt}
 use Rattle.std.proofs.lemmas.List.{get_or_append_left, get_or_push, length_push, get_or_read}
 use Rattle.grid_exact.specs.Geometry.{Place, IsGridNumber}
@@ -7,9 +7,6 @@ use Rattle.grid_exact.proofs.WholeLaws.{one-*ℤ}
 use Rattle.lane_kernels.specs.Places.{number_at}
 use Rattle.arc_map.specs.Arranged.{nowhere}
 use Rattle.shortcut_graph.specs.Weighed.{AreWeighed, IsColumn}
-
-pub no_place : (part : Place → ℤ) (places : List Place) → IsColumn part places [] 0
-no_place part places = record { length = refl; same = λ k h. absurd (omega arith); on_grid = λ k h. absurd (omega arith) }
 
 pub place_more : (part : Place → ℤ) (places : List Place) (numbers : List ℤ) (count : ℕ) (p : Place) (z : ℤ) → count < length places → p ≡ get_or places count p → z ≡ part p → IsGridNumber z → IsColumn part places numbers count → IsColumn part places (numbers ++ z ∷ []) (count + 1)
 place_more part places numbers count p z within read is grid copied =

@@ -8,11 +8,8 @@ ghost use Rattle.lane_kernels.specs.Places.{AreCoordinates, place_at};
 ghost use Rattle.shortcut_graph.specs.Corridor.{mirrored, seen_along, IsLowerLimit, IsUpperLimit};
 
 use crate::ruler::Ruler;
-use grid_exact::{Bound, Point, area, within};
+use grid_exact::{Bound, MAX_COORDINATE, Point, area, within};
 use lane_kernels::point_at;
-
-// The greatest coordinate.
-const REACH: i64 = 1 << 29;
 
 /// The axis and the direction along which a corridor runs.
 #[derive(Clone, Copy)]
@@ -144,7 +141,7 @@ fn raised(place: Point, bound: Bound) -> Point
     ensures across { result.x ≡ place.x }
     ensures up { result.y ≤ℤ (place.y +ℤ bound) }
 {
-    match Point::new(place.x(), (place.y() + bound.value()).min(REACH)) {
+    match Point::new(place.x(), (place.y() + bound.value()).min(MAX_COORDINATE)) {
         Some(high) => high,
         None => unreachable!(),
     }
@@ -155,7 +152,7 @@ fn lowered(place: Point, bound: Bound) -> Point
     ensures across { result.x ≡ place.x }
     ensures up { (place.y -ℤ bound) ≤ℤ result.y }
 {
-    match Point::new(place.x(), (place.y() - bound.value()).max(-REACH)) {
+    match Point::new(place.x(), (place.y() - bound.value()).max(-MAX_COORDINATE)) {
         Some(low) => low,
         None => unreachable!(),
     }
@@ -206,16 +203,16 @@ impl Corridor {
         ensures origin { result.origin ≡ origin }
         ensures past { result.is_passable ≡ true → IsPastOrigin result }
     {
-        let ahead = (origin.x() + 1).min(REACH);
+        let ahead = (origin.x() + 1).min(MAX_COORDINATE);
         Corridor {
             heading,
             origin,
             ceiling: Limit {
-                place: grid_point(ahead, REACH),
+                place: grid_point(ahead, MAX_COORDINATE),
                 vertex,
             },
             floor: Limit {
-                place: grid_point(ahead, -REACH),
+                place: grid_point(ahead, -MAX_COORDINATE),
                 vertex,
             },
             reach: ahead,

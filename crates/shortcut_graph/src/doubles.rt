@@ -1,9 +1,8 @@
 //! Other chains that are an edge between the ends of a chain.
-ghost use Rattle.std.specs.Prelude.{◌≡◌, ◌↔◌, ◌<◌, IsTrue, length};
-ghost use Rattle.grid_exact.specs.Segments.{SameEnds};
+ghost use Rattle.std.specs.Prelude.{◌↔◌, ◌<◌, IsTrue, length};
 ghost use Rattle.shortcut_graph.specs.Doubles.{AreEndsOf, IsDoubled, IsTwin};
 
-use grid_exact::Point;
+use grid_exact::{Point, same_ends};
 use map_index::IndexedMap;
 
 // Whether another chain than the chain number `k` is one edge between the ends of that chain.
@@ -33,19 +32,5 @@ fn is_twin(map: &IndexedMap, k: u32, other: u32, a: Point, b: Point) -> bool
 fn is_edge_between(chain: &[Point], a: Point, b: Point) -> bool
     ensures { IsTrue result ↔ AreEndsOf a b chain.now }
 {
-    chain.len() == 2 && are_ends(a, b, chain[0], chain[1])
-}
-
-// Whether a and b are c and d, in either order.
-fn are_ends(a: Point, b: Point, c: Point, d: Point) -> bool
-    ensures { IsTrue result ↔ SameEnds a b c d }
-{
-    (is_one(a, c) && is_one(b, d)) || (is_one(a, d) && is_one(b, c))
-}
-
-// Whether two points are one.
-fn is_one(a: Point, b: Point) -> bool
-    ensures { IsTrue result ↔ (a ≡ b) }
-{
-    a.x() == b.x() && a.y() == b.y()
+    chain.len() == 2 && same_ends(a, b, chain[0], chain[1])
 }

@@ -35,9 +35,6 @@ greater_on_grid y z m e g h = subst IsGridNumber (sym e) (max_on_grid (to_z w64 
 
 -- ---- boxes that grow
 
-pub box_of_one : (p : Place) → IsInBox p p p
-box_of_one p = record { west = omega (arith, sums); east = omega (arith, sums); south = omega (arith, sums); north = omega (arith, sums) }
-
 pub still_in_box : (low high p low' high' q : Place) → IsLowerOf low p low' → IsUpperOf high p high' → IsInBox low high q → IsInBox low' high' q
 still_in_box low high p low' high' q lower upper h =
     let a = lower.a_across in let b = lower.a_up in let c = upper.a_across in let d = upper.a_up in

@@ -18,11 +18,11 @@ use Rattle.arc_map.specs.Chains.{Chain, chain_at, chain_places}
 use Rattle.sweep_index.specs.declared.index.Owner.{Owner}
 use Rattle.sweep_index.specs.declared.index.Owner.TheVariants.{Town as OfTown, Chain as OfChain}
 use Rattle.arc_map.specs.Work.{Work}
-use Rattle.map_index.specs.Items.{Owns}
+use Rattle.map_index.specs.Items.{IsOther, Owns}
 use Rattle.side_wedge.specs.Obstacles.{IsObstacle}
 use Rattle.side_wedge.specs.Obstacles.IsObstacle.{Town, Vertex}
 use Rattle.side_wedge.specs.Flanks.{Flanks, IsInRow, StandsInRow, IsBesideEdge, IsBeyond, IsBeside, row_of}
-use Rattle.side_wedge.specs.Strays.{RunsAlong, IsOther, IsStartOf, stray}
+use Rattle.side_wedge.specs.Strays.{RunsAlong, IsStartOf, stray}
 use Rattle.side_wedge.specs.Gathered.{AreMapStrays}
 use Rattle.side_wedge.specs.declared.strays.Stray.{Stray}
 

@@ -69,9 +69,6 @@ narrowed b s xs ys xs' ys' w w1 w2 v left right same one two = (
 abbrev pub LetsSoFar : Flanks → Frame → Bool → Place → ℕ → ℕ → Wedge → Type 0
 LetsSoFar b frame rising start i edge w = (v : Place) → IsAlong frame rising start v → Lets w v ↔ ((s : ℕ) → i ≤ s → s < edge → KeepsSides b s start v)
 
-pub lets_none : (b : Flanks) (frame : Frame) (rising : Bool) (start : Place) (i : ℕ) (w : Wedge) → ((v : Place) → Lets w v) → LetsSoFar b frame rising start i i w
-lets_none b frame rising start i w all v past = (λ h s low high. absurd (omega arith), λ h. all v)
-
 pub lets_more : (b : Flanks) (frame : Frame) (rising : Bool) (start : Place) (i edge : ℕ) (w new : Wedge) → i ≤ edge → StartsAt w frame rising start → StartsAt new frame rising start → LetsSoFar b frame rising start i edge w → ((v : Place) → IsPast new v → Lets new v ↔ (Lets w v × KeepsSides b edge w.origin v)) → LetsSoFar b frame rising start i (edge + 1) new
 lets_more b frame rising start i edge w new low at now before step v past =
     let here = step v (past_of new frame rising start v now past) in

@@ -135,16 +135,6 @@ next_limit frame rising hand s limit xs ys from at ahead q p h past low inside i
     is_there : p ≡ place_at xs ys (at + ahead) → p ≡ place_at (drop at xs) (drop at ys) ahead
     is_there e = let d = dropped xs ys at ahead in cc
 
--- a limit before the lists, and their first place
-pub tightest_by_first : (frame : Frame) (rising : Bool) (hand : Hand) (s : Place) (limit : Option Place) (xs ys : List ℤ) (to : ℕ) (p first : Place) (new : Option Place) → IsTighter frame rising hand s limit p first → p ≡ place_at xs ys 0 → 1 ≤ to → IsTightestOf frame rising hand s (Some first) xs ys 1 to new → IsTightestOf frame rising hand s limit xs ys 0 to new
-tightest_by_first frame rising hand s limit xs ys to p first new h is some g = record {
-  past = g.past;
-  same = λ v sv. (
-    λ on. let both = (g.same v sv).0 on in let two = (h.same v sv).0 both.0 in (two.0, each_joined 0 1 to (IsOnSide hand s v) xs ys (each_more 0 0 (IsOnSide hand s v) xs ys (λ k low high. absurd (omega arith)) (subst (IsOnSide hand s v) is two.1)) both.1),
-    λ both. (g.same v sv).1 ((h.same v sv).1 (both.0, subst (IsOnSide hand s v) (sym is) (both.1 0 (omega arith) (omega arith))), λ k low high. both.1 k (omega arith) high),
-  );
-}
-
 pub tightest_of_none : (frame : Frame) (rising : Bool) (hand : Hand) (s : Place) (limit : Option Place) (xs ys : List ℤ) (to : ℕ) → to ≡ 0 → ForSome limit (IsAlong frame rising s) → IsTightestOf frame rising hand s limit xs ys 0 to limit
 tightest_of_none frame rising hand s limit xs ys to none past = record {
   past = past;

@@ -21,12 +21,6 @@ coordinates_more xs ys x y h gx gy =
       y_on_grid = λ k within. grid_more ys y (λ j below. h.y_on_grid j (omega arith)) gy k (omega (arith, length-append xs (x ∷ []), length-append ys (y ∷ [])));
     }
 
-pub no_coordinates : (xs ys : List ℤ) → xs ≡ [] → ys ≡ [] → AreCoordinates xs ys
-no_coordinates xs ys e f =
-    let x : length xs ≡ 0 = ap length e in
-    let y : length ys ≡ 0 = ap length f in
-    record { same_length = omega arith; x_on_grid = λ k within. absurd (omega arith); y_on_grid = λ k within. absurd (omega arith) }
-
 pub coordinates_pushed : (xs ys xs' ys' : List ℤ) (x y u w : ℤ) → xs' ≡ xs ++ u ∷ [] → ys' ≡ ys ++ w ∷ [] → u ≡ x → w ≡ y → AreCoordinates xs ys → IsGridNumber x → IsGridNumber y → AreCoordinates xs' ys'
 coordinates_pushed xs ys xs' ys' x y u w e f k l h gx gy = rw (e, f) (coordinates_more xs ys u w h (subst IsGridNumber (sym k) gx) (subst IsGridNumber (sym l) gy))
 

@@ -1,13 +1,12 @@
 -- Single places beside the edges of a chain.
-use Rattle.std.specs.Prelude.{◌≡◌, ◌≢◌, ◌+◌, ◌<◌, ◌≤◌, ℕ, Bool, List, length, slice_index_or}
+use Rattle.std.specs.Prelude.{◌≡◌, ◌+◌, ◌<◌, ◌≤◌, ℕ, Bool, List, length, slice_index_or}
 use Rattle.grid_exact.specs.Geometry.{Place}
 use Rattle.grid_exact.specs.declared.frame.Frame.{Frame}
 use Rattle.chain_side.specs.Along.{IsAlong, vertex_at}
 use Rattle.lane_kernels.specs.declared.side.Hand.{Hand}
 use Rattle.lane_kernels.specs.Hands.{IsOnSide}
 use Rattle.sweep_index.specs.declared.index.Item.{Item}
-use Rattle.sweep_index.specs.declared.index.Owner.{Owner}
-use Rattle.sweep_index.specs.declared.index.Owner.TheVariants.{Town, Chain as OfChain}
+use Rattle.map_index.specs.Items.{IsOther}
 use Rattle.side_wedge.specs.Flanks.{row_of}
 use Rattle.side_wedge.specs.declared.strays.Stray.{Stray}
 
@@ -20,11 +19,6 @@ pub record IsOverEdge (frame : Frame) (rising : Bool) (chain : List Place) (p : 
   pub in_chain : s + 1 < length chain
   pub start : IsAlong frame rising (vertex_at chain s) p
   pub end : IsAlong frame rising p (vertex_at chain (s + 1))
-
--- it belongs to another chain than the chain number k, or to none
-abbrev pub IsOther : ℕ → Owner → Type 0
-IsOther k Town = Unit {0}
-IsOther k (OfChain l) = l ≢ k
 
 -- the item belongs to another chain, and stands over an edge of the chain, on this hand of it
 pub record IsStrayItem (frame : Frame) (rising : Bool) (chain : List Place) (k : ℕ) (item : Item) (s : ℕ) (hand : Hand) : Type 0 where

@@ -15,14 +15,14 @@ use crate::gather::gather;
 use crate::strays::{Stray, rises, write_places, write_starts};
 use crate::wedge::Wedge;
 use arc_map::NoMemory;
-use grid_exact::{Frame, Point};
+use grid_exact::{Frame, MAX_CHAIN_EDGES, Point};
 use lane_kernels::Hand;
 use map_index::IndexedMap;
 use std::alloc::Global;
 use std::marker::Model;
 
 // How many rows a chain has at most, and the end of the last: two rows to an edge.
-const MOST_STARTS: usize = 2 * 1023 + 1;
+const MOST_STARTS: usize = 2 * MAX_CHAIN_EDGES + 1;
 
 /// What stands beside the edges of one chain, in memory that is taken once. Contracts see the places by their rows, two to an
 /// edge, and for how many there is room.
@@ -130,7 +130,7 @@ impl Beside {
         let mut wedge = Wedge::start(frame, chain[i], rising);
         for edge in i..chain.len() - 1 {
             self.narrow(&mut wedge, edge);
-            row[edge + 1] = wedge.lets(chain[edge + 1]);
+            row[edge + 1] = wedge.admits(chain[edge + 1]);
         }
     }
 

@@ -56,7 +56,7 @@ fn collect(
     }
 }
 
-// Puts what was found behind the strays. There is room for it.
+// Puts what was found at the end of the strays. There is room for it.
 fn push_found(strays: &mut Vec<Stray>, found: Option<Stray>)
     requires { vec_len strays.old < vec_capacity strays.old }
     ensures items { strays.new.items ≡ strays.old.items ++ option_to_list found }

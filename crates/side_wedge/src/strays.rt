@@ -8,12 +8,13 @@ ghost use Rattle.lane_kernels.specs.declared.side.Hand.{Hand};
 ghost use Rattle.lane_kernels.specs.Hands.{IsOnSide};
 ghost use Rattle.lane_kernels.specs.Places.{AreCoordinates};
 ghost use Rattle.side_wedge.specs.Flanks.{row_of};
-ghost use Rattle.side_wedge.specs.Strays.{RunsAlong, IsOverEdge, IsOther, IsStrayItem, IsStrayOf, IsStartOf, stray};
+ghost use Rattle.side_wedge.specs.Strays.{RunsAlong, IsOverEdge, IsStrayItem, IsStrayOf, IsStartOf, stray};
 
 use chain_side::{comes_before, edge_at};
 use grid_exact::{Frame, Point, area};
 use lane_kernels::Hand;
-use sweep_index::{Item, Owner};
+use map_index::is_other;
+use sweep_index::Item;
 
 // A point beside an edge of a chain, in its row: on the left of the edge number s is the row 2 * s, on its right the row
 // 2 * s + 1.
@@ -48,16 +49,6 @@ pub fn stray_of(chain: &[Point], frame: Frame, rising: bool, k: u32, item: Item)
         row: row(edge, hand),
         at: item.at,
     })
-}
-
-// Whether an item belongs to another chain than the chain number `k`, or to none.
-fn is_other(owner: Owner, k: u32) -> bool
-    ensures { IsTrue result ↔ IsOther k owner }
-{
-    match owner {
-        Owner::Town => true,
-        Owner::Chain(chain) => chain != k,
-    }
 }
 
 // The number of the row on this hand of an edge.

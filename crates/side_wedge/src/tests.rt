@@ -34,7 +34,7 @@ fn lets_after(
     assert!(rt; comes_before(frame, rising, from, v));
     let mut wedge = Wedge::start(frame, from, rising);
     wedge.take_point(p, side);
-    wedge.lets(v)
+    wedge.admits(v)
 }
 
 #[test]

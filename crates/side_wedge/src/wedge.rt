@@ -56,8 +56,8 @@ impl Wedge {
         }
     }
 
-    /// Whether v is let. It is strictly past the start in the chain's direction.
-    pub fn lets(&self, v: Point) -> bool
+    /// Whether the wedge admits v. It is strictly past the start in the chain's direction.
+    pub fn admits(&self, v: Point) -> bool
         requires { IsPast self.now v }
         ensures { IsTrue result ↔ Lets self.now v }
     {

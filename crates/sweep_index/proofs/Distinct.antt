@@ -26,10 +26,6 @@ pairs_append R (x ∷ xs) ys first second across =
     let head = All-append (R x) xs ys (pairs_head R x xs first) (All-head (λ z. All (R z) ys) x xs across) in
     AllPairs-cons R x (xs ++ ys) head (pairs_append R xs ys (pairs_tail R x xs first) second (All-tail (λ z. All (R z) ys) x xs across))
 
--- the same by another relation, element by element
-pub pairs_weaker : {X : Type 0} (R Q : X → X → Type 0) → ((x y : X) → R x y → Q x y) → (xs : List X) → AllPairs R xs → AllPairs Q xs
-pairs_weaker R Q each xs all i j d lt within = each _ _ (all i j d lt within)
-
 pub pairs_from_map : {X Y : Type 0} (R : Y → Y → Type 0) (f : X → Y) (xs : List X) → AllPairs R (map f xs) → AllPairs (λ x y. R (f x) (f y)) xs
 pairs_from_map R f xs all i j d lt within =
     let long = length-map xs f in

@@ -4,9 +4,11 @@ use Rattle.std.specs.List.{AllWithin}
 use Rattle.std.specs.List.Sorted.{IsNonDecreasingBy, IsPartitionedBy}
 use Rattle.std.proofs.lemmas.Bool.{and_from, and_parts, cond-false, cond-true, eq-eqb, eqb-true, false_from_ne_true, le-leb, leb-true, ltb-false, ltb-true}
 use Rattle.std.proofs.lemmas.List.{append-nil, get_or-drop, get_or-map, get_or-take, length-drop, length-map, length-take-le, take-append-drop}
-use Rattle.std.proofs.lemmas.List.Elements.{All-filter, All-head, All-map, All-tail, Contains-get_or, at_from_Contains, filter-append, filter_passes}
+use Rattle.std.proofs.lemmas.List.Elements.{All-filter, All-head, All-map, All-nil, All-tail, Contains-get_or, at_from_Contains, filter-append, filter_passes}
 use Rattle.std.proofs.lemmas.List.Kept.{AllPairs-filter}
-use Rattle.grid_exact.specs.Geometry.{IsGridNumber}
+use Rattle.grid_exact.specs.Geometry.{IsBetween, IsGridNumber}
+use Rattle.grid_exact.specs.Geometry.IsBetween.{Rising, Falling}
+use Rattle.grid_exact.proofs.WholeLaws.{sums}
 use Rattle.arc_map.specs.Map.{Map}
 use Rattle.arc_map.specs.Arranged.{IsMapEdge, edge_end, edge_start}
 use Rattle.arc_map.specs.declared.refs.EdgeRef.{EdgeRef}
@@ -147,3 +149,33 @@ module _ (m : Map) (width : ℕ) (edges : List Slabbed) (wide : 0 < width) (are 
 
   pub edges_here : AreEdgesAt m x (edges_at (offset_of x) here)
   edges_here = record { only = only_here; all = all_here; once = once_here }
+
+-- ---- what is off the grid
+
+-- the ends of each edge are on the grid
+pub ends_on_grid : (m : Map) (width : ℕ) (edges : List Slabbed) → 0 < width → AreEdgesOf m width edges → (e : EdgeRef) → IsMapEdge m e → IsGridNumber (edge_start m e).x × IsGridNumber (edge_end m e).x
+ends_on_grid m width edges wide are e edge =
+    let low = min (offset_of (edge_start m e).x) (offset_of (edge_end m e).x) in
+    let high = max (offset_of (edge_start m e).x) (offset_of (edge_end m e).x) in
+    let order : low ≤ high = omega arith in
+    let held = are.all e (low / width) edge (omega arith) (div_rises low high width wide order) in
+    let found = at_from_Contains (map place_of edges) (e, low / width) held in
+    let inside : found.0 < length edges = omega (arith, length-map edges place_of, found.1) in
+    let d = some_of edges found.0 inside in
+    let s = get_or edges found.0 d in
+    let is : place_of s ≡ (e, low / width) = sym (get_or-map place_of edges found.0 d (place_of d) inside) ∙ found.2 (place_of d) in
+    let same : s.edge ≡ e = ap (λ p. p.0) is in
+    let has = (are.only found.0 d inside).0 in
+    (subst (λ f. IsGridNumber (edge_start m f).x) same has.start_on_grid, subst (λ f. IsGridNumber (edge_end m f).x) same has.end_on_grid)
+
+between_on_grid : (a b x : ℤ) → IsGridNumber a → IsGridNumber b → IsBetween a b x → IsGridNumber x
+between_on_grid a b x first second (Rising low high) = let p = first.low in let q = second.high in record { low = omega (arith, sums); high = omega (arith, sums) }
+between_on_grid a b x first second (Falling low high) = let p = first.high in let q = second.low in record { low = omega (arith, sums); high = omega (arith, sums) }
+
+-- no edge spans an x that is off the grid
+pub none_off_grid : (m : Map) (x : ℤ) → ((e : EdgeRef) → IsMapEdge m e → IsGridNumber (edge_start m e).x × IsGridNumber (edge_end m e).x) → ¬ (IsGridNumber x) → AreEdgesAt m x []
+none_off_grid m x ends off = record {
+  only = All-nil (IsEdgeAt m x);
+  all = λ e at. let g = ends e at.edge in absurd (off (between_on_grid (edge_start m e).x (edge_end m e).x x g.0 g.1 at.across));
+  once = λ i j d before below. absurd (omega arith);
+}

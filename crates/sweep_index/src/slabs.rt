@@ -1,5 +1,5 @@
 //! The edges of a map by the x that they span.
-ghost use Rattle.std.specs.Prelude.{◌≡◌, ◌<◌, ◌+◌, ◌-◌, ◌/◌, ◌++◌, IfOk, OnOk, IfSome, IfNone, length, ◌∷◌, []};
+ghost use Rattle.std.specs.Prelude.{◌≡◌, ◌<◌, ◌+◌, ◌-◌, ◌/◌, ◌++◌, ◌↔◌, IsTrue, IfOk, OnOk, IfSome, IfNone, length, ◌∷◌, []};
 ghost use Rattle.std.specs.List.Sorted.{IsNonDecreasingBy};
 ghost use Rattle.grid_exact.specs.Geometry.{IsGridNumber};
 ghost use Rattle.arc_map.specs.Map.{Map};
@@ -10,6 +10,7 @@ use crate::bands::Measures;
 use crate::grid::offset;
 use crate::things::Extent;
 use arc_map::{ArcMap, EdgeRef, NoMemory};
+use grid_exact::MAX_COORDINATE;
 use std::alloc::{AllocError, Global};
 
 // An edge in a slab of x that it spans, from west to east in offsets.
@@ -47,18 +48,27 @@ impl EdgeSlabs {
         Ok(EdgeSlabs { edges, width })
     }
 
-    /// Each edge whose closed x range holds x, once.
+    /// Each edge whose closed x range holds x, once. Where x is off the grid there is none.
     pub fn at_x(&self, x: i64) -> EdgeWalk<'_>
-        requires { IsGridNumber x }
-        ensures value { edges_left result ≡ edges_of self.now x }
+        ensures value { IsGridNumber x → edges_left result ≡ edges_of self.now x }
         ensures edges { (m : Map) → AreSlabsOf m self.now → AreEdgesAt m x (edges_left result) }
     {
+        if !is_on_grid(x) {
+            return EdgeWalk { rest: &[], x: 0 };
+        }
         let x = offset(x);
         EdgeWalk {
             rest: in_slab(self.edges.as_slice(), x / self.width),
             x,
         }
     }
+}
+
+// Whether x is a coordinate of the grid.
+fn is_on_grid(x: i64) -> bool
+    ensures { IsTrue result ↔ IsGridNumber x }
+{
+    -MAX_COORDINATE <= x && x <= MAX_COORDINATE
 }
 
 // The edges of one slab.
@@ -137,7 +147,7 @@ impl<'a> Iterator for EdgeWalk<'a> {
     }
 }
 
-// The first edge whose range holds x, and the edges behind it.
+// The first edge whose range holds x, and the edges after it.
 fn first_at(edges: &[Slabbed], x: u32) -> Option<(EdgeRef, &[Slabbed])>
     ensures found { IfSome result (λ r. edges_at x edges.now ≡ r.0 ∷ edges_at x r.1.now) }
     ensures none { IfNone result (edges_at x edges.now ≡ []) }

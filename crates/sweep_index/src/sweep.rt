@@ -10,7 +10,7 @@ use crate::things::Banded;
 // Pairs of things in one band whose boxes meet. A pair that meets in several bands comes in the lowest of them alone.
 #[derive(Clone, Copy)]
 pub struct Sweep<'a> {
-    // The first of these is compared with the others behind it, of which so many are passed already.
+    // The first of these is compared with the others after it, of which so many are passed already.
     pub rest: &'a [Banded],
     pub passed: usize,
     pub height: u32,
@@ -21,7 +21,7 @@ pub struct Sweep<'a> {
 impl<'a> Sweep<'a> {
     ghost use Rattle.sweep_index.specs.Sweeping.{meetings_left};
 
-    // The next pair, and the sweep behind it.
+    // The next pair, and the sweep after it.
     pub fn next_meeting(self) -> Option<(Banded, Banded, Sweep<'a>)>
         ensures steps { IfSome result (λ r. meetings_left self.entry ≡ (r.0, r.1) ∷ meetings_left r.2) }
         ensures none { IfNone result (meetings_left self.entry ≡ []) }

@@ -41,7 +41,7 @@ impl<'a> Search<'a> {
         Cursor { row, at, end }
     }
 
-    // The first item from the cursor on, with the cursor behind it.
+    // The first item from the cursor on, with the cursor after it.
     fn next_from(&self, cursor: Cursor) -> Option<((u32, Item), Cursor)>
         requires { IsCursor self.now.grid self.now.entries.now self.now.live.now (lowest self.now.area) (highest self.now.area) cursor.row cursor.end }
         ensures steps { IfSome result (λ r. items_from self.now.entries.now self.now.live.now (lowest self.now.area) (highest self.now.area) cursor.at ≡ r.0 ∷ items_from self.now.entries.now self.now.live.now (lowest self.now.area) (highest self.now.area) r.1.at) }

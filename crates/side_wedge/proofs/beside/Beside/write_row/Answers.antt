@@ -12,8 +12,8 @@ narrow-requires-clause-past c hand p stands =
     let edge = c.loop-edge.edge in
     past_of c.loop-edge.wedge c.args.frame c.args.rising (vertex_at c.args.chain.now c.args.i) p c.loop-edge.invariant.origin (c.requires.past edge hand p c.loop-edge.invariant.reached (omega (arith, c.loop-edge-test.true)) stands)
 
-pub lets-requires : goal.lets-requires
-lets-requires c =
+pub admits-requires : goal.admits-requires
+admits-requires c =
     let edge = c.loop-edge.edge in
     let chain = c.args.chain.now in
     let start = vertex_at chain c.args.i in
@@ -37,14 +37,14 @@ loop-edge-preserved c =
     let now = starts_still c.loop-edge.wedge c.narrow.new.wedge frame rising start h.origin c.narrow.ensures.origin in
     let lets = lets_more b frame rising start i edge c.loop-edge.wedge c.narrow.new.wedge h.reached h.origin now h.lets c.narrow.ensures.lets in
     let let_here = lets (vertex_at chain (edge + 1)) (c.requires.runs i (edge + 1) (omega arith) within) in
-    let test = subst (λ (x : Place). IsTrue c.lets.result ↔ Lets c.narrow.new.wedge x) v c.lets.ensures in
+    let test = subst (λ (x : Place). IsTrue c.admits.result ↔ Lets c.narrow.new.wedge x) v c.admits.ensures in
     let count = h.count in let size = c.requires.row in
     record {
       reached = omega arith;
       origin = now;
       lets = lets;
-      told = told_more b chain i edge c.loop-edge.row c.lets.result (omega (arith, within, count, size)) h.told (λ t. let_here.0 (test.0 t), λ k. test.1 (let_here.1 k));
-      before = λ j early. get_or-set_other c.loop-edge.row (edge + 1) j c.lets.result false (λ e. absurd (omega arith)) ∙ h.before j early;
+      told = told_more b chain i edge c.loop-edge.row c.admits.result (omega (arith, within, count, size)) h.told (λ t. let_here.0 (test.0 t), λ k. test.1 (let_here.1 k));
+      before = λ j early. get_or-set_other c.loop-edge.row (edge + 1) j c.admits.result false (λ e. absurd (omega arith)) ∙ h.before j early;
       count = search rules;
     }
 
