@@ -6,6 +6,7 @@ pub mod Shortcuts
 pub mod EdgeLaws
 pub mod Paths
 pub mod Maps
+pub mod RunsBeside
 pub mod Sides
 pub mod OneSided
 pub mod Arranged

@@ -129,7 +129,7 @@ after chains k l kept c d within o =
 steps_apart : (frame : Frame) (v : Vertex) (ws : List Vertex) → IsMonotone frame v.place (places ws) → EachEdge (λ a b. ¬ (a.place ≡ b.place)) v ws
 steps_apart frame v ws h = let way = increases frame v.place (places ws) h in from_places (λ a b. ¬ (a ≡ b)) v ws (each_edge_mapped (λ a b. IsBefore (way.view a) (way.view b)) (λ a b. ¬ (a ≡ b)) (λ a b k e. not_before_itself (way.view a) (way.view b) (ap way.view e) k) v.place (places ws) way.rising)
 
-other_apart : (chains : List Chain) (k : ℕ) (c d : Vertex) → AreChains chains → IsOtherEdge chains k c d → ¬ (c.place ≡ d.place)
+pub other_apart : (chains : List Chain) (k : ℕ) (c d : Vertex) → AreChains chains → IsOtherEdge chains k c d → ¬ (c.place ≡ d.place)
 other_apart chains k c d are o = edge_has (λ a b. ¬ (a.place ≡ b.place)) (chain_at chains o.chain).first (chain_at chains o.chain).rest c d (steps_apart (chain_at chains o.chain).frame (chain_at chains o.chain).first (chain_at chains o.chain).rest (are.monotone o.chain)) o.edge
 
 -- ---- the law

@@ -9,7 +9,8 @@ use Rattle.grid_exact.specs.declared.frame.Frame.{Frame}
 use Rattle.arc_map.specs.Vertices.{Vertex, places, MeetLawfully}
 use Rattle.arc_map.specs.Allowed.{IsConsistent}
 use Rattle.arc_map.specs.Clear.{IsWithinChain}
-use Rattle.arc_map.specs.Chains.{Chain, IsOtherEdge}
+use Rattle.arc_map.specs.Chains.{Chain, chain_at, AreChains, IsClearIn, IsOtherEdge}
+use Rattle.arc_map.specs.Paths.{vertices_of}
 use Rattle.arc_map.specs.Edges.{EachOf}
 use Rattle.segment_tests.specs.Laws.{SpansMeet, AreOrdered}
 use Rattle.segment_tests.specs.Meeting.{MeetAtPoint}
@@ -22,6 +23,10 @@ pub record IsBesideRun (frame : Frame) (chains : List Chain) (k : ℕ) (v : Vert
   pub one_way : IsMonotone frame v.place (places (skipped ++ w ∷ []))
   pub within : EachOf (IsWithinChain (IsOtherEdge chains k)) skipped
   pub lawful : EachEdge (λ a b. MeetLawfully a b c d) v (skipped ++ w ∷ [])
+
+-- Each run of a clear chain, and each edge of another chain: the edge is beside the run.
+abbrev pub ClearRunsAreBeside : Type 0
+ClearRunsAreBeside = (chains : List Chain) (points : List Place) (k : ℕ) (before : List Vertex) (v : Vertex) (skipped : List Vertex) (w : Vertex) (rest : List Vertex) (c d : Vertex) → AreChains chains → IsClearIn chains points k → vertices_of (chain_at chains k) ≡ before ++ (v ∷ (skipped ++ (w ∷ rest))) → IsOtherEdge chains k c d → IsBesideRun (chain_at chains k).frame chains k v skipped w c d
 
 -- the edge cd does not change sides where the run from v to w becomes the segment vw: the consistency part at both its ends
 pub record StaysBeside (v : Vertex) (skipped : List Vertex) (w c d : Vertex) : Type 0 where
