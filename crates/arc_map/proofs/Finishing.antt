@@ -177,7 +177,7 @@ pub record IsRejoined (m : Map) (number : ℕ) (cs : List LiveChain) : Type 0 wh
   pub shorter : length (rejoined (arc_at m number) (run_of number cs)) ≤ length (arc_at m number)
   pub proper : IsArc (rejoined (arc_at m number) (run_of number cs))
 
-has_position : (ps : List Place) → IsArc ps → 1 ≤ length ps
+pub has_position : (ps : List Place) → IsArc ps → 1 ≤ length ps
 has_position [] proper = absurd proper
 has_position (p ∷ ps) proper = omega arith
 

@@ -14,7 +14,7 @@ pub data Same (p q : Place) : Type 0 where
   Yes : is_same p q ≡ true → p ≡ q → Same p q
   No : is_same p q ≡ false → ¬ (p ≡ q) → Same p q
 
-both_true : (a b : Bool) → (a && b) ≡ true → (a ≡ true) × (b ≡ true)
+pub both_true : (a b : Bool) → (a && b) ≡ true → (a ≡ true) × (b ≡ true)
 both_true true true e = (refl, refl)
 both_true true false e = absurd (false≢true e)
 both_true false b e = absurd (false≢true e)

@@ -202,7 +202,7 @@ outside_along frame false v w ws p way (inr h) = OutsideBefore (then_along frame
 
 -- ---- of a chain by its list
 
-last_vertex : (v w : Place) (ws : List Place) → vertex_at (v ∷ w ∷ ws) (length (v ∷ w ∷ ws) - 1) ≡ end_of w ws
+pub last_vertex : (v w : Place) (ws : List Place) → vertex_at (v ∷ w ∷ ws) (length (v ∷ w ∷ ws) - 1) ≡ end_of w ws
 last_vertex v w ws = let e : length (v ∷ w ∷ ws) - 1 ≡ length (w ∷ ws) = omega arith in ap (vertex_at (v ∷ w ∷ ws)) e ∙ vertex_at-last v (w ∷ ws)
 
 -- the test of the first vertex and the last tells the direction of the chain

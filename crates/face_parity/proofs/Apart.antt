@@ -12,7 +12,7 @@ use Rattle.grid_exact.proofs.Areas.{area_about}
 use Rattle.grid_exact.proofs.Orders.{lt_no, lt_yes}
 use Rattle.grid_exact.proofs.Crossings.{crossed_after, crossed_before, crossed_between, crossed_turned}
 use Rattle.arc_map.specs.Arcs.{is_list_crossed_oddly}
-use Rattle.grid_exact.proofs.Walks.{is_odd-counted}
+use Rattle.grid_exact.proofs.Walks.{is_odd-counted, differ_itself}
 use lib.IntN.{*ℤ_comm}
 
 -- ---- one edge
@@ -105,10 +105,6 @@ none-of : (p : Place) (P : Place → Type 0) → ((a b : Place) → P a → P b 
 none-of p P none [] all = refl
 none-of p P none (v ∷ ws) all = list-none p P none v ws all
 
-pub differ-self : (b : Bool) → differ b b ≡ false
-differ-self true = refl
-differ-self false = refl
-
 differ-through : (a b c : Bool) → differ (differ a b) (differ b c) ≡ differ a c
 differ-through true true c = refl
 differ-through true false c = refl
@@ -117,7 +113,7 @@ differ-through false true false = refl
 differ-through false false c = refl
 
 list-above : (p v : Place) (ws : List Place) → All (λ q. p.y <ℤ q.y) (v ∷ ws) → is_odd (count_edges (is_crossed p) v ws) ≡ differ (int_lt v.x p.x) (int_lt (end_of v ws).x p.x)
-list-above p v [] all = sym (differ-self (int_lt v.x p.x))
+list-above p v [] all = sym (differ_itself (int_lt v.x p.x))
 list-above p v (w ∷ ws) all =
     let rest = All-tail (λ q. p.y <ℤ q.y) v (w ∷ ws) all in
     is_odd-counted (is_crossed p) v w ws

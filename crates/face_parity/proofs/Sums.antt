@@ -1,26 +1,13 @@
 -- Parities of counts over lists.
 use Rattle.std.proofs.Common.{◌≡◌, ◌∙◌, ℕ, suc, ◌+◌, ◌<◌, Bool, true, false, cond, List, [], ◌∷◌, ◌++◌, All, length, get_or, drop, map, refl, sym, ap, arith, add-one, drop-cons}
-use Rattle.std.specs.Prelude.{not, ◌&&◌, count_by}
+use Rattle.std.specs.Prelude.{◌&&◌, count_by}
 use Rattle.std.specs.List.Sorted.{IsPermutation}
 use Rattle.std.proofs.lemmas.List.Elements.{All-head, All-tail}
 use Rattle.std.proofs.lemmas.List.Sorted.{sum_by-IsPermutation}
 use Rattle.std.proofs.lemmas.List.Sums.{sum_by-cons}
 use Rattle.grid_exact.specs.Walks.{is_odd, differ}
 use Rattle.face_parity.specs.Parities.{pass_oddly}
-use Rattle.grid_exact.proofs.Walks.{differ_assoc}
-
-not-not : (b : Bool) → not (not b) ≡ b
-not-not true = refl
-not-not false = refl
-
-differ-crossed : (a b c d : Bool) → differ (differ a b) (differ c d) ≡ differ (differ a c) (differ b d)
-differ-crossed false false c d = refl
-differ-crossed false true false d = refl
-differ-crossed false true true d = refl
-differ-crossed true false false d = refl
-differ-crossed true false true d = not-not d
-differ-crossed true true false d = sym (not-not d)
-differ-crossed true true true d = refl
+use Rattle.grid_exact.proofs.Walks.{differ_assoc, regrouped}
 
 pub pass-append : {X : Type 0} (test : X → Bool) (xs ys : List X) → pass_oddly test (xs ++ ys) ≡ differ (pass_oddly test xs) (pass_oddly test ys)
 pass-append test [] ys = refl
@@ -46,7 +33,7 @@ pass-and false test xs = pass-none (λ x. false && test x) xs (λ k d within. re
 -- two tests at once, counted one after the other
 pass-both : {X : Type 0} (p q : X → Bool) (xs : List X) → pass_oddly (λ x. differ (p x) (q x)) xs ≡ differ (pass_oddly p xs) (pass_oddly q xs)
 pass-both p q [] = refl
-pass-both p q (x ∷ xs) = ap (differ (differ (p x) (q x))) (pass-both p q xs) ∙ differ-crossed (p x) (q x) (pass_oddly p xs) (pass_oddly q xs)
+pass-both p q (x ∷ xs) = ap (differ (differ (p x) (q x))) (pass-both p q xs) ∙ regrouped (p x) (q x) (pass_oddly p xs) (pass_oddly q xs)
 
 -- pairs that pass, counted by their first parts or by their second ones
 pub pass-swap : {X Y : Type 0} (test : X → Y → Bool) (xs : List X) (ys : List Y) → pass_oddly (λ x. pass_oddly (test x) ys) xs ≡ pass_oddly (λ y. pass_oddly (λ x. test x y) xs) ys

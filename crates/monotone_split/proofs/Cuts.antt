@@ -53,7 +53,7 @@ pub record IsPart (k : Chain) : Type 0 where
   pub one_arc : EachEdge (λ a b. (a.arc ≡ b.arc) × (b.at ≡ suc a.at)) k.first k.rest
   pub no_end : EachButLast (λ v. v.is_end ≡ false) k.rest
 
-next_monotone : (v : Vertex) (ws : List Vertex) (k : Chain) → k.first ≡ v → IsNextChain v ws k → IsMonotone k.frame k.first.place (places k.rest)
+pub next_monotone : (v : Vertex) (ws : List Vertex) (k : Chain) → k.first ≡ v → IsNextChain v ws k → IsMonotone k.frame k.first.place (places k.rest)
 next_monotone v ws k e (PlainReaches other f plain turned longer) = subst (λ (x : Vertex). IsMonotone k.frame x.place (places k.rest)) (sym e) (subst (λ (x : Frame). IsMonotone x v.place (places k.rest)) (sym f) plain.one_way)
 next_monotone v ws k e (TurnedReaches other f plain turned longer) = subst (λ (x : Vertex). IsMonotone k.frame x.place (places k.rest)) (sym e) (subst (λ (x : Frame). IsMonotone x v.place (places k.rest)) (sym f) turned.one_way)
 
@@ -184,7 +184,7 @@ record BeginsFrom (v : Vertex) (k : Chain) : Type 0 where
   arc : k.first.arc ≡ v.arc
   low : v.at ≤ k.first.at
 
-of_mapped : {A : Type 0} (P Q : A → Type 0) → ((x : A) → P x → Q x) → (xs : List A) → EachOf P xs → EachOf Q xs
+pub of_mapped : {A : Type 0} (P Q : A → Type 0) → ((x : A) → P x → Q x) → (xs : List A) → EachOf P xs → EachOf Q xs
 of_mapped P Q f [] h = tt
 of_mapped P Q f (x ∷ xs) h = (f x h.0, of_mapped P Q f xs h.1)
 

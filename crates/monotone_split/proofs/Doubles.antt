@@ -1,5 +1,5 @@
 -- An edge whose ends both lie at vertices of a clear chain of another number is a chain of its own.
-use Rattle.std.proofs.Common.{◌≡◌, inl, inr, false, IsTrue, List, [], ◌∷◌, sym, ap, subst}
+use Rattle.std.proofs.Common.{◌≡◌, inl, inr, List, [], ◌∷◌, sym, ap, subst}
 use Rattle.grid_exact.specs.Walks.{EachEdge}
 use Rattle.arc_map.specs.Vertices.{Vertex, MayJoin, MeetLawfully}
 use Rattle.arc_map.specs.Vertices.MayJoin.{One, BothEnd}
@@ -10,6 +10,7 @@ use Rattle.monotone_split.specs.Laws.{EndOfEdge, DoubleEdgeIsChain}
 use Rattle.monotone_split.specs.Laws.EndOfEdge.{StartsAt, EndsAt}
 use Rattle.monotone_split.proofs.Junctions.{join_at_starts, join_at_start_and_end, join_at_end_and_start, join_at_ends}
 use Rattle.monotone_split.proofs.WalkParts.{edge_has}
+use Rattle.monotone_split.proofs.Shortcuts.{no_true}
 
 -- a vertex that starts an edge of a list of vertices is not its last
 start_has : (P : Vertex → Type 0) (w : Vertex) (ws : List Vertex) (c d : Vertex) → EachButLast P (w ∷ ws) → IsEdgeOf w ws c d → P c
@@ -24,12 +25,9 @@ only_edge P v (w ∷ []) c d h (inr e) p q = absurd e
 only_edge P v (w ∷ x ∷ xs) c d h (inl e) p q = absurd (q (subst P e.1 h.0))
 only_edge P v (w ∷ x ∷ xs) c d h (inr e) p q = absurd (p (start_has P w (x ∷ xs) c d h e))
 
-not_both : (v : Vertex) → v.is_end ≡ false → IsTrue v.is_end → ⊥
-not_both v e h = cc
-
 -- an edge of chain k has an end x where c is, and may join it there: c is not within chain l
 not_within : (IsEdge : Vertex → Vertex → Type 0) (v : Vertex) (ws : List Vertex) (x c : Vertex) → ((a b : Vertex) → IsEdgeOf v ws a b → IsEdge a b) → EndOfEdge v ws x → MayJoin x c → ¬ (IsWithinChain IsEdge c)
-not_within IsEdge v ws x c other end (BothEnd e g) h = not_both c h.no_end g
+not_within IsEdge v ws x c other end (BothEnd e g) h = no_true c.is_end h.no_end g
 not_within IsEdge v ws x c other (StartsAt b edge) (One e) h = h.no_start_of x b (other x b edge) (sym e)
 not_within IsEdge v ws x c other (EndsAt a edge) (One e) h = h.no_end_of a x (other a x edge) (sym e)
 

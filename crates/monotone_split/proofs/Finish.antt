@@ -276,7 +276,7 @@ kept_firsts P [] (l ∷ ls) h k = absurd k
 kept_firsts P (x ∷ xs) [] h k = absurd k
 kept_firsts P (x ∷ xs) (l ∷ ls) h k = (subst P (sym k.0) h.0, kept_firsts P xs ls h.1 k.2)
 
-eq_test : (m n : ℕ) → m ≡ n → nat_eq m n ≡ true
+pub eq_test : (m n : ℕ) → m ≡ n → nat_eq m n ≡ true
 eq_test m n e = grind (arith, nat_tests)
 
 other_test : (m n : ℕ) → suc n ≤ m → nat_eq m n ≡ false

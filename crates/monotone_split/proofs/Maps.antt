@@ -44,7 +44,7 @@ with_rest k kept = record { frame = k.frame; first = k.first; rest = kept }
 pub chain_thinned : (chains : List Chain) (k : ℕ) (kept : List Vertex) → k < length chains → chain_at (thinned chains k kept) k ≡ with_rest (chain_at chains k) kept
 chain_thinned chains k kept within = get_or-set_same chains k (with_rest (chain_at chains k) kept) no_chain within
 
-chain_same : (chains : List Chain) (k l : ℕ) (kept : List Vertex) → l ≢ k → chain_at (thinned chains k kept) l ≡ chain_at chains l
+pub chain_same : (chains : List Chain) (k l : ℕ) (kept : List Vertex) → l ≢ k → chain_at (thinned chains k kept) l ≡ chain_at chains l
 chain_same chains k l kept other = get_or-set_other chains k l (with_rest (chain_at chains k) kept) no_chain other
 
 -- ---- edges of kept vertices and of the chain

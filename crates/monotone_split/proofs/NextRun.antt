@@ -39,7 +39,3 @@ plain_next arc ps start plain turned by_x by_y further = made_next arc ps start 
 
 pub turned_next : (arc : ℕ) (ps : List Place) (start plain turned : ℕ) → IsFurthestRun Plain (take (length ps - start) (drop start ps)) plain → IsFurthestRun Turned (take (length ps - start) (drop start ps)) turned → plain < turned → IsNextChainRef arc ps start (record { arc = arc; «from» = start; to = start + turned; frame = Turned })
 turned_next arc ps start plain turned by_x by_y further = made_next arc ps start turned Turned (TurnedReaches plain refl (in_rest Plain ps start plain by_x) (in_rest Turned ps start turned by_y) further)
-
-pub some_position : (ps : List Place) → IsArc ps → 0 < length ps
-some_position [] arc = absurd arc
-some_position (p ∷ ps) arc = omega arith

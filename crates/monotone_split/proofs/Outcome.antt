@@ -63,7 +63,7 @@ steps_kept wx wy bound held points before chains (s ∷ ss) after are kept arran
     let rest = steps_kept wx wy bound held points before (thinned chains s.chain (vertices_at (chain_at chains s.chain) s.numbers)) ss after keeps.chains_stay (thinned_are_kept.1 wx wy bound before chains points s.chain (vertices_at (chain_at chains s.chain) s.numbers) kept (path_in wx wy bound chains points s.chain s.numbers steps.2)) (keeps.arranged held arranged) steps.3 in
     record { are_chains = rest.are_chains; kept = rest.kept; arranged = rest.arranged; parity = λ p arc point. rest.parity p arc point ∙ keeps.arc_parity p arc point }
 
-inside_alike : (p : Place) (xs ys : List (List Place)) → ((arc : ℕ) → is_list_crossed_oddly p (get_or xs arc []) ≡ is_list_crossed_oddly p (get_or ys arc [])) → (numbers : List ℕ) → is_inside_of p xs numbers ≡ is_inside_of p ys numbers
+pub inside_alike : (p : Place) (xs ys : List (List Place)) → ((arc : ℕ) → is_list_crossed_oddly p (get_or xs arc []) ≡ is_list_crossed_oddly p (get_or ys arc [])) → (numbers : List ℕ) → is_inside_of p xs numbers ≡ is_inside_of p ys numbers
 inside_alike p xs ys same [] = refl
 inside_alike p xs ys same (n ∷ ns) =
     ap (λ (t : Bool). differ t (is_inside_of p xs ns)) (same n) ∙ ap (λ (t : Bool). differ (is_list_crossed_oddly p (get_or ys n [])) t) (inside_alike p xs ys same ns)

@@ -11,8 +11,8 @@ use Rattle.arc_map.specs.Chains.{Chain, is_crossed_oddly}
 use Rattle.arc_map.specs.Edges.{EachOf, is_arc_crossed_oddly}
 use Rattle.arc_map.specs.Arcs.{vertex, vertices_from, AreKept, IsCutInto, IsListCutInto, AreChainsOf, joined_rests, joined_arc, arcs_now, is_list_crossed_oddly}
 use Rattle.monotone_split.specs.Laws.{ParityOfArcs}
-use Rattle.monotone_split.proofs.Cuts.{parts_of_arc, parts_of_arcs}
-use Rattle.monotone_split.proofs.Finish.{kept_parts, kept_firsts, kept_last, taken, left_over}
+use Rattle.monotone_split.proofs.Cuts.{of_mapped, parts_of_arc, parts_of_arcs}
+use Rattle.monotone_split.proofs.Finish.{eq_test, kept_parts, kept_firsts, kept_last, taken, left_over}
 
 -- ---- walks
 
@@ -43,9 +43,6 @@ joined_oddly p v ws (k ∷ ks) (l ∷ ls) cut kept =
 
 -- ---- chains by their arc
 
-eq_test : (m n : ℕ) → m ≡ n → nat_eq m n ≡ true
-eq_test m n e = grind (arith, nat_tests)
-
 other_test : (m n : ℕ) → m ≢ n → nat_eq m n ≡ false
 other_test m n h = grind (arith, nat_tests)
 
@@ -69,13 +66,9 @@ arc_all p arc (x ∷ xs) h =
     ap (λ (t : Bool). elim t [ true ↦ differ (is_crossed_oddly p x) (is_arc_crossed_oddly p arc xs) | false ↦ is_arc_crossed_oddly p arc xs ]) (eq_test x.first.arc arc h.0)
     ∙ ap (λ (t : Bool). differ (is_crossed_oddly p x) t) (arc_all p arc xs h.1)
 
-of_each : (P Q : Chain → Type 0) → ((k : Chain) → P k → Q k) → (xs : List Chain) → EachOf P xs → EachOf Q xs
-of_each P Q f [] h = tt
-of_each P Q f (x ∷ xs) h = (f x h.0, of_each P Q f xs h.1)
-
 -- ---- one arc
 
-no_walk : (arc : ℕ) (q : Place) (qs : List Place) → vertices_from arc 1 (q ∷ qs) ≡ [] → ⊥
+pub no_walk : (arc : ℕ) (q : Place) (qs : List Place) → vertices_from arc 1 (q ∷ qs) ≡ [] → ⊥
 no_walk arc q [] e = cc
 no_walk arc q (r ∷ rs) e = cc
 
@@ -111,7 +104,7 @@ arcs_oddly p arc (ps ∷ pss) ks ls i cut kept =
         ∙ sym
         (ap (λ (n : ℕ). is_arc_crossed_oddly p n (here ++ later)) (same_number arc)
         ∙ arc_append p arc here later
-        ∙ ap (λ (t : Bool). differ (is_arc_crossed_oddly p arc here) t) (arc_none p arc later (of_each (λ k. suc arc ≤ k.first.arc) (λ k. k.first.arc ≢ arc) (λ k m e. past arc k.first.arc m e) later seconds))
+        ∙ ap (λ (t : Bool). differ (is_arc_crossed_oddly p arc here) t) (arc_none p arc later (of_mapped (λ k. suc arc ≤ k.first.arc) (λ k. k.first.arc ≢ arc) (λ k m e. past arc k.first.arc m e) later seconds))
         ∙ differ_false (is_arc_crossed_oddly p arc here)
         ∙ arc_all p arc here firsts)
       where
@@ -126,7 +119,7 @@ arcs_oddly p arc (ps ∷ pss) ks ls i cut kept =
         ∙ ap (λ (n : ℕ). is_arc_crossed_oddly p n later) (moved arc j)
         ∙ sym
         (arc_append p (arc + suc j) here later
-        ∙ ap (λ (t : Bool). differ t (is_arc_crossed_oddly p (arc + suc j) later)) (arc_none p (arc + suc j) here (of_each (λ k. k.first.arc ≡ arc) (λ k. k.first.arc ≢ arc + suc j) (λ k m e. apart arc j k.first.arc m e) here firsts)))
+        ∙ ap (λ (t : Bool). differ t (is_arc_crossed_oddly p (arc + suc j) later)) (arc_none p (arc + suc j) here (of_mapped (λ k. k.first.arc ≡ arc) (λ k. k.first.arc ≢ arc + suc j) (λ k m e. apart arc j k.first.arc m e) here firsts)))
       where
         moved : (n j : ℕ) → suc n + j ≡ n + suc j
         moved n j = omega arith

@@ -5,14 +5,14 @@ use Rattle.std.proofs.lemmas.Option.{get_or_from_slice_get}
 use Rattle.grid_exact.specs.Geometry.{Place}
 use Rattle.arc_map.specs.Arranged.{arc_at}
 use Rattle.monotone_split.specs.Cut.{IsNextChainRef}
-use Rattle.monotone_split.proofs.NextRun.{some_position}
+use Rattle.arc_map.proofs.Finishing.{has_position}
 use Rattle.monotone_split.proofs.CutSoFar.{cut_begins, cut_goes_on, cut_ends}
 use Rattle.monotone_split.proofs.cut.cut_arc.Goals as goal
 
 pub loop-from-init : goal.loop-from-init
 loop-from-init c =
     let same : arc_at c.args.map.now c.args.number ≡ c.arc-arc.result.now = get_or_from_slice_get c.args.map.now.arcs c.args.number c.arc-arc.result.now [] c.arc-arc.ensures.value in
-    cut_begins c.args.map.now c.args.number c.args.chains.now.items (subst (λ (ps : List Place). 0 < length ps) (sym same) (some_position c.arc-arc.result.now c.arc-arc.ensures.is_arc))
+    cut_begins c.args.map.now c.args.number c.args.chains.now.items (subst (λ (ps : List Place). 0 < length ps) (sym same) (has_position c.arc-arc.result.now c.arc-arc.ensures.is_arc))
 
 pub loop-from-preserved : goal.loop-from-preserved
 loop-from-preserved c =
