@@ -42,13 +42,17 @@ IsSilent (No reason) = ⊥
 IsSilent WriteFault = ⊥
 IsSilent status = Unit {0}
 
+-- A run ended with this fault only where the count of faults rose, and it passed no failed call over.
+pub record HasFault (fault : Status) (before now : ℕ) (result : Status) : Type 0 where
+  pub rose : result ≡ fault → Rose before now
+  pub stood : result ≢ fault → now ≡ before
+
 -- ---- what was read
 
 -- What a run may say of the texts that it reads, by the count of faults, the strays and the bytes given before and after.
 pub record ReadsTexts (tells : Bool) (texts : Texts) (names : List Named) (faults faults_now strays strays_now given : ℕ) (result : Status) : Type 0 where
   -- reading failed only where a call failed, and no failed call is passed over
-  pub read_fault : result ≡ ReadFault → Rose faults faults_now
-  pub no_read_fault : result ≢ ReadFault → faults_now ≡ faults
+  pub fault : HasFault ReadFault faults faults_now result
   -- a text is said to be too long only where it is the first past its limit, or at least gave as many bytes
   pub too_long : IsTrue tells → (role : Role) → result ≡ TooLarge (Text role) → IsFirstPast texts names role
   pub too_long_given : (role : Role) → result ≡ TooLarge (Text role) → limit_of role < given

@@ -1,5 +1,6 @@
 -- The texts that a form names, and how their reading ends.
-use Rattle.std.specs.Prelude.{◌≡◌, ◌<◌, ◌≤◌, ◌^◌, ◌⊎◌, ℕ, List, [], ◌∷◌, length, Option, None, Some, IsSome, IsSomeAnd}
+use Rattle.std.specs.Prelude.{◌≡◌, ◌≢◌, ◌<◌, ◌≤◌, ◌^◌, ◌⊎◌, ℕ, Bool, List, [], ◌∷◌, length, Option, None, Some, Result, IsTrue, IsSome, IsSomeAnd, IfOk, IfErr, OnOk, IsErrOf}
+use Rattle.outside_io.specs.Causes.{Rose}
 use Rattle.outside_io.specs.Texts.{Texts, text_of}
 use Rattle.top_call.specs.declared.status.Role.{Role}
 use Rattle.top_call.specs.declared.status.Role.TheVariants.{File, Out, Cert}
@@ -86,3 +87,24 @@ IsReadingStatus ReadFault = Unit {0}
 IsReadingStatus (TooLarge (Text role)) = Unit {0}
 IsReadingStatus NoMemory = Unit {0}
 IsReadingStatus status = ⊥
+
+-- ---- how a reading ends
+
+-- What the reading of the texts with these names may say, by what the inputs tell, and by the count of faults, the strays and the bytes
+-- given, before and after.
+pub record ReadsNames (tells : Bool) (texts : Texts) (names : List Named) (faults faults_now strays strays_now given : ℕ) (result : Result HeldTexts Status) : Type 0 where
+  -- the texts are those of the names, and each is within its limit
+  pub read : IsTrue tells → IfOk result (λ held. AreRead texts names (texts_read held))
+  pub short : IfOk result (λ held. AreShort (texts_read held))
+  pub statuses : IfErr result IsReadingStatus
+  -- reading failed only where a call failed, and no failed call is passed over
+  pub read_fault : IsErrOf result ReadFault → Rose faults faults_now
+  pub no_read_fault : OnOk result (faults_now ≡ faults)
+  pub other_fault : IfErr result (λ s. s ≢ ReadFault → faults_now ≡ faults)
+  -- a text is said to be too long only where it is the first past its limit, and gave more bytes
+  pub past : IsTrue tells → IfErr result (λ s. (role : Role) → s ≡ TooLarge (Text role) → IsFirstPast texts names role)
+  pub too_large : IfErr result (λ s. (role : Role) → s ≡ TooLarge (Text role) → limit_of role < given)
+  -- and it is said of that text, unless a call failed or memory was wanting
+  pub past_limit : IsTrue tells → ¬ (Rose faults faults_now) → (role : Role) → IsFirstPast texts names role → IsErrOf result (TooLarge (Text role)) ⊎ IsErrOf result NoMemory
+  -- no name is asked for but these
+  pub strays_stay : IsTrue tells → AreHeld texts names → strays_now ≡ strays

@@ -29,7 +29,8 @@ fn judged(
     texts: &Texts,
 ) -> Result<Verdict, Status>
     requires short { AreShort (texts_read texts.now) }
-    requires loaded { IsLoaded options.now (texts_read texts.now).file (topology_in loaded) loaded.partly.held }
+    requires loaded { IsLoaded options.now (texts_read texts.now).file (topology_in loaded)
+        loaded.partly.held }
     requires span { LiesIn (texts_read texts.now).file loaded.arcs_at }
     requires text { certificate_text (content_of certificate.now) ≡ (texts_read texts.now).cert }
     requires certificate { IsCertificate (content_of certificate.now) }
@@ -64,8 +65,8 @@ fn compared(expected: &[u8], out: &[u8]) -> Verdict
     }
 }
 
-/// The verdict on what was written for a topology within the bound, by its certificate. The errors are the statuses
-/// with which the topology's text is refused, and want of memory.
+/// The verdict on what was written for a topology within the bound, by its certificate. The errors
+/// are the statuses with which the topology's text is refused, and want of memory.
 pub fn verdict_on(
     alloc: Global,
     options: &Options,

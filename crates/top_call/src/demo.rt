@@ -74,8 +74,8 @@ pub fn no_options() -> Options
     }
 }
 
-/// What comes of thinning such a coverage within the bound, in five lines of numbers. The only error is want of memory: a
-/// coverage is an arranged topology.
+/// What comes of thinning such a coverage within the bound, in five lines of numbers. The only
+/// error is want of memory: a coverage is an arranged topology.
 pub fn demo(alloc: Global, rows: u32, cols: u32, seed: u32, bound: Bound) -> Result<Vec<u8>, Status>
     requires { IsMakeable rows cols seed }
     ensures written { IfOk result (λ bytes. IsDemoed rows cols seed bound bytes.items) }

@@ -4,7 +4,7 @@ ghost use Rattle.outside_io.specs.Causes.{HasCause, Rose};
 ghost use Rattle.outside_io.specs.Texts.{AppendsPrefix};
 ghost use Rattle.face_parity.specs.Scratch.{IsScratchOf};
 ghost use Rattle.top_call.specs.Answers.{IsFaced, IsMapAnswer, faces_text, plain};
-ghost use Rattle.top_call.specs.Endings.{IsPartWritten, IsSilent, IsWorkStatus, Replies, Settles};
+ghost use Rattle.top_call.specs.Endings.{HasFault, IsPartWritten, IsSilent, IsWorkStatus, Replies, Settles};
 
 use crate::demo::no_options;
 use crate::loading::load;
@@ -22,8 +22,11 @@ fn write_through<O: Sink>(lines: &mut Vec<u8>, line: &[u8], out: &mut O) -> Resu
     ensures empty { OnOk result (lines.new.items ≡ []) }
     ensures capacity { vec_capacity lines.old ≤ vec_capacity lines.new }
     ensures few { vec_len lines.new ≤ vec_len lines.old }
-    ensures ok { IsTrue O.tells → OnOk result (O.written out.new ≡ (O.written out.old ++ lines.old.items) ++ line.now) }
-    ensures failed { IsTrue O.tells → OnErr result (AppendsPrefix (O.written out.old) (O.written out.new) (lines.old.items ++ line.now)) }
+    ensures ok { IsTrue O.tells → OnOk result
+        (O.written out.new ≡ (O.written out.old ++ lines.old.items) ++ line.now) }
+    ensures failed { IsTrue O.tells
+        → OnErr result (AppendsPrefix (O.written out.old) (O.written out.new)
+        (lines.old.items ++ line.now)) }
     ensures cause { HasCause (O.faults out.old) (O.faults out.new) result }
 {
     if let Err(failed) = write_all(out, lines) {
@@ -36,14 +39,19 @@ fn write_through<O: Sink>(lines: &mut Vec<u8>, line: &[u8], out: &mut O) -> Resu
     }
 }
 
-// Adds a line behind the gathered ones. Where there is no room for it, they are written, and then the line.
+// Adds a line behind the gathered ones. Where there is no room for it, they are written, and then
+// the line.
 fn add_line<O: Sink>(lines: &mut Vec<u8>, line: &[u8], out: &mut O) -> Result<(), Failed>
     requires room { GATHERED ≤ vec_capacity lines.old }
     requires few { vec_len lines.old ≤ GATHERED }
     ensures room { GATHERED ≤ vec_capacity lines.new }
     ensures few { vec_len lines.new ≤ GATHERED }
-    ensures ok { IsTrue O.tells → OnOk result (IsPartWritten (O.written out.old) (O.written out.new) (lines.old.items ++ line.now) lines.new.items) }
-    ensures failed { IsTrue O.tells → OnErr result (AppendsPrefix (O.written out.old) (O.written out.new) (lines.old.items ++ line.now)) }
+    ensures ok { IsTrue O.tells → OnOk result
+        (IsPartWritten (O.written out.old) (O.written out.new) (lines.old.items ++ line.now)
+        lines.new.items) }
+    ensures failed { IsTrue O.tells
+        → OnErr result (AppendsPrefix (O.written out.old) (O.written out.new)
+        (lines.old.items ++ line.now)) }
     ensures cause { HasCause (O.faults out.old) (O.faults out.new) result }
 {
     if line.len() <= GATHERED - lines.len() {
@@ -66,8 +74,11 @@ fn write_lines<O: Sink>(
     requires scratch { IsScratchOf map.now scratch.old }
     requires room { GATHERED ≤ vec_capacity lines.old }
     requires empty { lines.old.items ≡ [] }
-    ensures ok { IsTrue O.tells → OnOk result (O.written out.new ≡ O.written out.old ++ faces_text map.now) }
-    ensures failed { IsTrue O.tells → OnErr result (AppendsPrefix (O.written out.old) (O.written out.new) (faces_text map.now)) }
+    ensures ok { IsTrue O.tells → OnOk result
+        (O.written out.new ≡ O.written out.old ++ faces_text map.now) }
+    ensures failed { IsTrue O.tells
+        → OnErr result (AppendsPrefix (O.written out.old) (O.written out.new)
+        (faces_text map.now)) }
     ensures cause { HasCause (O.faults out.old) (O.faults out.new) result }
 {
     for point in 0..map.point_count() {
@@ -84,10 +95,11 @@ fn write_lines<O: Sink>(
 
 // Writes the lines of a map, with memory that is taken first.
 fn reply_faces<O: Sink>(alloc: Global, map: &ArcMap, out: &mut O) -> Status
-    ensures replies { (result ≡ Status.NoMemory) ⊎ Replies O.tells (O.written out.old) (O.written out.new) (faces_text map.now) Status.Done result }
+    ensures replies { (result ≡ Status.NoMemory)
+        ⊎ Replies O.tells (O.written out.old) (O.written out.new) (faces_text map.now) Status.Done
+        result }
     ensures silent { result ≡ Status.NoMemory → out.new ≡ out.old }
-    ensures write_fault { result ≡ Status.WriteFault → Rose (O.faults out.old) (O.faults out.new) }
-    ensures no_write_fault { result ≢ Status.WriteFault → O.faults out.new ≡ O.faults out.old }
+    ensures fault { HasFault Status.WriteFault (O.faults out.old) (O.faults out.new) result }
 {
     let mut scratch = match FaceScratch::new(alloc, map) {
         Ok(scratch) => scratch,
@@ -103,15 +115,15 @@ fn reply_faces<O: Sink>(alloc: Global, map: &ArcMap, out: &mut O) -> Status
     }
 }
 
-/// Writes the line of each feature point of the arranged map of a text: the polygons in which it lies. A text that is
-/// refused, or want of memory, ends it before the first write.
+/// Writes the line of each feature point of the arranged map of a text: the polygons in which it
+/// lies. A text that is refused, or want of memory, ends it before the first write.
 pub fn write_faces<O: Sink>(alloc: Global, text: &[u8], out: &mut O) -> Status
     requires { length text.now ≤ 2 ^ 26 }
     ensures status { IsWorkStatus result }
     ensures silent { IsSilent result → out.new ≡ out.old }
-    ensures write_fault { result ≡ Status.WriteFault → Rose (O.faults out.old) (O.faults out.new) }
-    ensures no_write_fault { result ≢ Status.WriteFault → O.faults out.new ≡ O.faults out.old }
-    ensures answers { Settles (IsMapAnswer plain text.now (IsFaced text.now)) O.tells (O.written out.old) (O.written out.new) result }
+    ensures fault { HasFault Status.WriteFault (O.faults out.old) (O.faults out.new) result }
+    ensures answers { Settles (IsMapAnswer plain text.now (IsFaced text.now)) O.tells
+        (O.written out.old) (O.written out.new) result }
 {
     let options = no_options();
     match load(alloc, &options, text) {

@@ -1,5 +1,5 @@
-//! The top call of the command-line tool: what the words of a command line ask for is done over texts and sinks that
-//! the caller brings.
+//! The top call of the command-line tool: what the words of a command line ask for is done over
+//! texts and sinks that the caller brings.
 #![tactic(auto)]
 
 mod checking;

@@ -15,7 +15,8 @@ use json_scan::{ScanError, scan};
 use std::alloc::Global;
 use topo_reader::{ReadFault, Span, Topology, read};
 
-/// The map of a text with its held arcs, beside which it is arranged, and where the value of `arcs` stands.
+/// The map of a text with its held arcs, beside which it is arranged, and where the value of `arcs`
+/// stands.
 #[derive(Drop)]
 pub struct Loaded {
     pub partly: Partly,
@@ -84,10 +85,12 @@ pub fn weights_of(options: &Options) -> Weights
     }
 }
 
-// The place in the arc of the first position that the weights take off the grid. Weights of 1 take none off.
+// The place in the arc of the first position that the weights take off the grid. Weights of 1 take
+// none off.
 fn first_off_in(weights: Weights, arc: &[Point]) -> Option<u32>
     requires { length arc.now ≤ 2 ^ 20 }
-    ensures value { MatchOption result (All (StaysOnGrid weights) arc.now) (IsFirstOff weights arc.now) }
+    ensures value { MatchOption result (All (StaysOnGrid weights) arc.now)
+        (IsFirstOff weights arc.now) }
     ensures ones { weights ≡ ones → result ≡ None }
 {
     match weights.first_off(arc) {
@@ -100,10 +103,11 @@ fn first_off_in(weights: Weights, arc: &[Point]) -> Option<u32>
     }
 }
 
-// The least arc of which the weights take a position off the grid, and its first such position. Weights of 1 take none
-// off.
+// The least arc of which the weights take a position off the grid, and its first such position.
+// Weights of 1 take none off.
 fn first_off(weights: Weights, map: &ArcMap) -> Option<(u32, u32)>
-    ensures value { MatchOption result (All (All (StaysOnGrid weights)) map.now.arcs) (λ off. IsFirstOffIn weights map.now.arcs off.0 off.1) }
+    ensures value { MatchOption result (All (All (StaysOnGrid weights)) map.now.arcs)
+        (λ off. IsFirstOffIn weights map.now.arcs off.0 off.1) }
     ensures ones { weights ≡ ones → result ≡ None }
 {
     for arc in 0..map.arc_count() {
@@ -132,14 +136,16 @@ fn arranged(alloc: Global, hold_arcs: bool, map: ArcMap) -> Result<Partly, Statu
     }
 }
 
-/// The map of a text, whose positions the weights leave on the grid, arranged or with its held arcs.
+/// The map of a text, whose positions the weights leave on the grid, arranged or with its held
+/// arcs.
 ///
-/// A text that is no JSON text, no topology within the profile and its limits, whose positions the weights take off the
-/// grid, or whose map is not arranged where no arcs are to be held, is refused with its status, in this order.
-/// `NoMemory` is want of memory.
+/// A text that is no JSON text, no topology within the profile and its limits, whose positions the
+/// weights take off the grid, or whose map is not arranged where no arcs are to be held, is refused
+/// with its status, in this order. `NoMemory` is want of memory.
 pub fn load(alloc: Global, options: &Options, text: &[u8]) -> Result<Loaded, Status>
     requires { length text.now ≤ 2 ^ 26 }
-    ensures loaded { IfOk result (λ loaded. IsLoaded options.now text.now (topology_in loaded) loaded.partly.held) }
+    ensures loaded { IfOk result (λ loaded. IsLoaded options.now text.now (topology_in loaded)
+        loaded.partly.held) }
     ensures span { IfOk result (λ loaded. LiesIn text.now loaded.arcs_at) }
     ensures refused { IfErr result (IsRefused options.now text.now) }
     ensures status { IfErr result IsMapStatus }

@@ -96,7 +96,8 @@ fn about(words: &'static str, what: &'static str) -> [Part; 9]
 
 // A line of words, what they speak of, and a place.
 fn placed(words: &'static str, what: &'static str, at: u32) -> [Part; 9]
-    ensures { spelled result ≡ words.entry.now ++ what.entry.now ++ codes " at " ++ decimal at ++ codes "\n" }
+    ensures { spelled result ≡ words.entry.now ++ what.entry.now ++ codes " at "
+        ++ decimal at ++ codes "\n" }
 {
     short_line([
         Part::Words(words),
@@ -195,12 +196,14 @@ fn line_of(status: &Status) -> [Part; 9]
     }
 }
 
-/// Writes the line that tells the status, nothing for `Done` and `No`. `Failed` says that a write failed, and then a
-/// prefix of the line was written.
+/// Writes the line that tells the status, nothing for `Done` and `No`. `Failed` says that a write
+/// failed, and then a prefix of the line was written.
 pub fn tell<S: Sink>(sink: &mut S, status: &Status) -> Result<(), Failed>
-    ensures ok { IsTrue S.tells → OnOk result (S.written sink.new ≡ S.written sink.old ++ message_of status.now) }
+    ensures ok { IsTrue S.tells → OnOk result
+        (S.written sink.new ≡ S.written sink.old ++ message_of status.now) }
     ensures failed { IsTrue S.tells
-        → OnErr result (AppendsPrefix (S.written sink.old) (S.written sink.new) (message_of status.now)) }
+        → OnErr result (AppendsPrefix (S.written sink.old) (S.written sink.new)
+        (message_of status.now)) }
     ensures cause { HasCause (S.faults sink.old) (S.faults sink.new) result }
 {
     write_parts(sink, &line_of(status))

@@ -16,8 +16,11 @@ pub enum Part {
 }
 
 fn write_part<S: Sink>(sink: &mut S, part: &Part) -> Result<(), Failed>
-    ensures ok { IsTrue S.tells → OnOk result (S.written sink.new ≡ S.written sink.old ++ part_text part.now) }
-    ensures failed { IsTrue S.tells → OnErr result (AppendsPrefix (S.written sink.old) (S.written sink.new) (part_text part.now)) }
+    ensures ok { IsTrue S.tells → OnOk result
+        (S.written sink.new ≡ S.written sink.old ++ part_text part.now) }
+    ensures failed { IsTrue S.tells
+        → OnErr result (AppendsPrefix (S.written sink.old) (S.written sink.new)
+        (part_text part.now)) }
     ensures cause { HasCause (S.faults sink.old) (S.faults sink.new) result }
 {
     match part {
@@ -29,11 +32,14 @@ fn write_part<S: Sink>(sink: &mut S, part: &Part) -> Result<(), Failed>
     }
 }
 
-/// Writes the parts one after the other. It takes no memory. `Failed` says that a write failed, and then a prefix of
-/// the line was written.
+/// Writes the parts one after the other. It takes no memory. `Failed` says that a write failed, and
+/// then a prefix of the line was written.
 pub fn write_parts<S: Sink>(sink: &mut S, parts: &[Part]) -> Result<(), Failed>
-    ensures ok { IsTrue S.tells → OnOk result (S.written sink.new ≡ S.written sink.old ++ spelled parts.now) }
-    ensures failed { IsTrue S.tells → OnErr result (AppendsPrefix (S.written sink.old) (S.written sink.new) (spelled parts.now)) }
+    ensures ok { IsTrue S.tells → OnOk result
+        (S.written sink.new ≡ S.written sink.old ++ spelled parts.now) }
+    ensures failed { IsTrue S.tells
+        → OnErr result (AppendsPrefix (S.written sink.old) (S.written sink.new)
+        (spelled parts.now)) }
     ensures cause { HasCause (S.faults sink.old) (S.faults sink.new) result }
 {
     for part in parts {

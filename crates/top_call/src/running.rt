@@ -8,7 +8,7 @@ ghost use Rattle.top_call.specs.Reading.{limit_of, named, texts_read, AreHeld, A
 ghost use Rattle.top_call.specs.Messages.{message_of};
 ghost use Rattle.top_call.specs.Verdicts.{verdict_line};
 ghost use Rattle.top_call.specs.Answers.{Answer, verdict_status, IsWorkAnswer, IsFormAnswer, IsAnswer};
-ghost use Rattle.top_call.specs.Endings.{IsMapStatus, IsWritten, IsWorkStatus, IsSilent, ReadsTexts, names_of, Replies, Settles, Notes};
+ghost use Rattle.top_call.specs.Endings.{HasFault, IsMapStatus, IsWritten, IsWorkStatus, IsSilent, ReadsTexts, names_of, Replies, Settles, Notes};
 ghost use Rattle.top_call.specs.Headline.{Headline, Completes, Judges, ReachesYes, KeepsLines, IsMaking, IsMakingStatus, Makes};
 
 use crate::checking::verdict_on;
@@ -28,9 +28,9 @@ use std::alloc::Global;
 // Writes the bytes, which end the run with this status.
 fn write_reply<O: Sink>(status: Status, bytes: &[u8], out: &mut O) -> Status
     requires { IsWritten status }
-    ensures replies { Replies O.tells (O.written out.old) (O.written out.new) bytes.now status result }
-    ensures write_fault { result ≡ Status.WriteFault → Rose (O.faults out.old) (O.faults out.new) }
-    ensures no_write_fault { result ≢ Status.WriteFault → O.faults out.new ≡ O.faults out.old }
+    ensures replies { Replies O.tells (O.written out.old) (O.written out.new) bytes.now status
+        result }
+    ensures fault { HasFault Status.WriteFault (O.faults out.old) (O.faults out.new) result }
 {
     match write_all(out, bytes) {
         Ok(()) => status,
@@ -41,12 +41,12 @@ fn write_reply<O: Sink>(status: Status, bytes: &[u8], out: &mut O) -> Status
 // Writes the bytes of a form, where they could be made.
 fn write_bytes<O: Sink>(made: Result<Vec<u8>, Status>, out: &mut O) -> Status
     requires { IfErr made IsMapStatus }
-    ensures replies { IfOk made (λ bytes. Replies O.tells (O.written out.old) (O.written out.new) bytes.items Status.Done result) }
+    ensures replies { IfOk made (λ bytes. Replies O.tells (O.written out.old) (O.written out.new)
+        bytes.items Status.Done result) }
     ensures refused { IfErr made (λ s. (result ≡ s) × (out.new ≡ out.old)) }
     ensures status { IsWorkStatus result }
     ensures silent { IsSilent result → out.new ≡ out.old }
-    ensures write_fault { result ≡ Status.WriteFault → Rose (O.faults out.old) (O.faults out.new) }
-    ensures no_write_fault { result ≢ Status.WriteFault → O.faults out.new ≡ O.faults out.old }
+    ensures fault { HasFault Status.WriteFault (O.faults out.old) (O.faults out.new) result }
 {
     match made {
         Ok(bytes) => write_reply(Status::Done, &bytes, out),
@@ -68,12 +68,12 @@ fn verdict_status(verdict: Verdict) -> Status
 fn write_verdict<O: Sink>(alloc: Global, found: Result<Verdict, Status>, out: &mut O) -> Status
     requires { IfErr found IsMapStatus }
     ensures replies { IfOk found (λ verdict. (result ≡ Status.NoMemory)
-        ⊎ Replies O.tells (O.written out.old) (O.written out.new) (verdict_line verdict) (verdict_status verdict) result) }
+        ⊎ Replies O.tells (O.written out.old) (O.written out.new)
+        (verdict_line verdict) (verdict_status verdict) result) }
     ensures refused { IfErr found (λ s. (result ≡ s) × (out.new ≡ out.old)) }
     ensures status { IsWorkStatus result }
     ensures silent { IsSilent result → out.new ≡ out.old }
-    ensures write_fault { result ≡ Status.WriteFault → Rose (O.faults out.old) (O.faults out.new) }
-    ensures no_write_fault { result ≢ Status.WriteFault → O.faults out.new ≡ O.faults out.old }
+    ensures fault { HasFault Status.WriteFault (O.faults out.old) (O.faults out.new) result }
 {
     let verdict = match found {
         Ok(verdict) => verdict,
@@ -91,9 +91,9 @@ fn work<O: Sink>(alloc: Global, request: &Request<'_>, texts: &Texts, out: &mut 
     requires short { AreShort (texts_read texts.now) }
     ensures status { IsWorkStatus result }
     ensures silent { IsSilent result → out.new ≡ out.old }
-    ensures write_fault { result ≡ Status.WriteFault → Rose (O.faults out.old) (O.faults out.new) }
-    ensures no_write_fault { result ≢ Status.WriteFault → O.faults out.new ≡ O.faults out.old }
-    ensures answers { Settles (IsWorkAnswer (form request.now) (texts_read texts.now)) O.tells (O.written out.old) (O.written out.new) result }
+    ensures fault { HasFault Status.WriteFault (O.faults out.old) (O.faults out.new) result }
+    ensures answers { Settles (IsWorkAnswer (form request.now) (texts_read texts.now)) O.tells
+        (O.written out.old) (O.written out.new) result }
 {
     match request {
         Request::Simplify(options, bound, _) => {
@@ -124,11 +124,14 @@ fn respond<I: Inputs, O: Sink>(
     ensures form { result ≢ Status.Usage }
     ensures unread { named (form request.now) ≡ [] → inputs.new ≡ inputs.old }
     ensures made { IsMaking (form request.now) → IsMakingStatus result }
-    ensures reads { ReadsTexts I.tells (I.texts inputs.old) (named (form request.now)) (I.faults inputs.old) (I.faults inputs.new) (I.strays inputs.old) (I.strays inputs.new) (I.given inputs.new) result }
+    ensures reads { ReadsTexts I.tells (I.texts inputs.old) (named (form request.now))
+        (I.faults inputs.old) (I.faults inputs.new) (I.strays inputs.old) (I.strays inputs.new)
+        (I.given inputs.new) result }
     ensures silent { IsSilent result → out.new ≡ out.old }
-    ensures write_fault { result ≡ Status.WriteFault → Rose (O.faults out.old) (O.faults out.new) }
-    ensures no_write_fault { result ≢ Status.WriteFault → O.faults out.new ≡ O.faults out.old }
-    ensures answers { IsTrue I.tells → Settles (IsFormAnswer (form request.now) (I.texts inputs.old)) O.tells (O.written out.old) (O.written out.new) result }
+    ensures fault { HasFault Status.WriteFault (O.faults out.old) (O.faults out.new) result }
+    ensures answers { IsTrue I.tells
+        → Settles (IsFormAnswer (form request.now) (I.texts inputs.old))
+        O.tells (O.written out.old) (O.written out.new) result }
 {
     match read_texts(alloc, request, inputs) {
         Ok(texts) => work(alloc, request, &texts, out),
@@ -146,11 +149,14 @@ fn answer<I: Inputs, O: Sink>(
     ensures usage { (result ≡ Status.Usage) ↔ (form_of (bytes_of words.now) ≡ None) }
     ensures unread { names_of (form_of (bytes_of words.now)) ≡ [] → inputs.new ≡ inputs.old }
     ensures made { Makes (bytes_of words.now) result }
-    ensures reads { ReadsTexts I.tells (I.texts inputs.old) (names_of (form_of (bytes_of words.now))) (I.faults inputs.old) (I.faults inputs.new) (I.strays inputs.old) (I.strays inputs.new) (I.given inputs.new) result }
+    ensures reads { ReadsTexts I.tells (I.texts inputs.old)
+        (names_of (form_of (bytes_of words.now))) (I.faults inputs.old) (I.faults inputs.new)
+        (I.strays inputs.old) (I.strays inputs.new) (I.given inputs.new) result }
     ensures silent { IsSilent result → out.new ≡ out.old }
-    ensures write_fault { result ≡ Status.WriteFault → Rose (O.faults out.old) (O.faults out.new) }
-    ensures no_write_fault { result ≢ Status.WriteFault → O.faults out.new ≡ O.faults out.old }
-    ensures answers { IsTrue I.tells → Settles (IsAnswer (bytes_of words.now) (I.texts inputs.old)) O.tells (O.written out.old) (O.written out.new) result }
+    ensures fault { HasFault Status.WriteFault (O.faults out.old) (O.faults out.new) result }
+    ensures answers { IsTrue I.tells
+        → Settles (IsAnswer (bytes_of words.now) (I.texts inputs.old))
+        O.tells (O.written out.old) (O.written out.new) result }
 {
     match &request(words) {
         Some(request) => respond(alloc, request, inputs, out),
@@ -169,25 +175,28 @@ fn is_written(status: &Status) -> bool
 fn tell_end<N: Sink>(note: &mut N, status: &Status)
     ensures no_note { IsWritten status.now → note.new ≡ note.old }
     ensures note { IsTrue N.tells → ¬ (IsWritten status.now)
-        → Notes (N.faults note.old) (N.faults note.new) (N.written note.old) (N.written note.new) (message_of status.now) }
+        → Notes (N.faults note.old) (N.faults note.new) (N.written note.old) (N.written note.new)
+        (message_of status.now) }
 {
     if !is_written(status) {
         let _ = tell(note, status);
     }
 }
 
-/// Does what the words ask for, and says how it ended. The bytes of the form go to `out`, and the message of each
-/// status but `Done` and `No` goes to `note`; a failed write to `note` changes no status.
+/// Does what the words ask for, and says how it ended. The bytes of the form go to `out`, and the
+/// message of each status but `Done` and `No` goes to `note`; a failed write to `note` changes no
+/// status.
 ///
-/// The named texts are read in the order FILE, OUT, CERT, each within its limit, before any of them is judged. Then the
-/// first that applies is the answer: FILE is no JSON text, or no topology; the weights take a position off the grid; the
-/// map is not arranged and no arcs are to be held; else the work is done. `NoMemory` may stand in place of each of them
-/// until the first byte is written.
+/// The named texts are read in the order FILE, OUT, CERT, each within its limit, before any of them
+/// is judged. Then the first that applies is the answer: FILE is no JSON text, or no topology; the
+/// weights take a position off the grid; the map is not arranged and no arcs are to be held; else
+/// the work is done. `NoMemory` may stand in place of each of them until the first byte is written.
 ///
-/// What `simplify` writes is faithful to the text: each byte stands but those of the value of `arcs`. Each arc there has
-/// some of its positions, both ends of each chain among them, and each that is skipped is within the bound of the edge
-/// that skips it; held arcs are unchanged. The map is arranged beside the held arcs, and each feature point is in the same
-/// polygons. What is left of each chain is a path of allowed pairs in the map as the chains before it left it, and no such
+/// What `simplify` writes is faithful to the text: each byte stands but those of the value of
+/// `arcs`. Each arc there has some of its positions, both ends of each chain among them, and each
+/// that is skipped is within the bound of the edge that skips it; held arcs are unchanged. The map
+/// is arranged beside the held arcs, and each feature point is in the same polygons. What is left
+/// of each chain is a path of allowed pairs in the map as the chains before it left it, and no such
 /// path has fewer vertices.
 pub fn run<I: Inputs, O: Sink, N: Sink>(
     alloc: Global,
@@ -196,57 +205,72 @@ pub fn run<I: Inputs, O: Sink, N: Sink>(
     out: &mut O,
     note: &mut N,
 ) -> Status
-    // The words alone decide whether they fit a form. Where they do not, or name no text, nothing is read.
+    // The words alone decide whether they fit a form. Where they do not, or name no text, nothing
+    // is read.
     ensures usage { (result ≡ Status.Usage) ↔ (form_of (bytes_of words.now) ≡ None) }
     ensures unread { names_of (form_of (bytes_of words.now)) ≡ [] → inputs.new ≡ inputs.old }
 
     // Reading failed only where a call failed, and no failed call is passed over.
-    ensures read_fault { result ≡ Status.ReadFault → Rose (I.faults inputs.old) (I.faults inputs.new) }
-    ensures no_read_fault { result ≢ Status.ReadFault → I.faults inputs.new ≡ I.faults inputs.old }
+    ensures read_fault { HasFault Status.ReadFault (I.faults inputs.old) (I.faults inputs.new)
+        result }
 
-    // A text is too long where it is the first past its limit, and only then; it is not said of one that gave fewer bytes.
+    // A text is too long where it is the first past its limit, and only then; it is not said of one
+    // that gave fewer bytes.
     ensures too_long { IsTrue I.tells → (role : Role) → result ≡ Status.TooLarge (Limit.Text role)
         → IsFirstPast (I.texts inputs.old) (names_of (form_of (bytes_of words.now))) role }
-    ensures past_limit { IsTrue I.tells → ¬ (Rose (I.faults inputs.old) (I.faults inputs.new)) → (role : Role)
+    ensures past_limit { IsTrue I.tells → ¬ (Rose (I.faults inputs.old) (I.faults inputs.new))
+        → (role : Role)
         → IsFirstPast (I.texts inputs.old) (names_of (form_of (bytes_of words.now))) role
         → (result ≡ Status.TooLarge (Limit.Text role)) ⊎ (result ≡ Status.NoMemory) }
-    ensures too_long_given { (role : Role) → result ≡ Status.TooLarge (Limit.Text role) → limit_of role < I.given inputs.new }
-    ensures strays { IsTrue I.tells → AreHeld (I.texts inputs.old) (names_of (form_of (bytes_of words.now)))
+    ensures too_long_given { (role : Role) → result ≡ Status.TooLarge (Limit.Text role)
+        → limit_of role < I.given inputs.new }
+    ensures strays { IsTrue I.tells
+        → AreHeld (I.texts inputs.old) (names_of (form_of (bytes_of words.now)))
         → I.strays inputs.new ≡ I.strays inputs.old }
 
     // Nothing is written but with Done and No, or where a write failed.
     ensures silent { IsSilent result → out.new ≡ out.old }
-    ensures write_fault { result ≡ Status.WriteFault → Rose (O.faults out.old) (O.faults out.new) }
-    ensures no_write_fault { result ≢ Status.WriteFault → O.faults out.new ≡ O.faults out.old }
+    ensures write_fault { HasFault Status.WriteFault (O.faults out.old) (O.faults out.new) result }
 
     // The status and the bytes are those of the answer.
     ensures answers { IsTrue I.tells → Settles (IsAnswer (bytes_of words.now) (I.texts inputs.old))
         O.tells (O.written out.old) (O.written out.new) result }
 
     // There is one answer, so each status comes exactly where the answer has it.
-    ensures exactly { IsTrue I.tells → (a : Answer) → IsAnswer (bytes_of words.now) (I.texts inputs.old) a
+    ensures exactly { IsTrue I.tells → (a : Answer)
+        → IsAnswer (bytes_of words.now) (I.texts inputs.old) a
         → Settles (λ b. b ≡ a) O.tells (O.written out.old) (O.written out.new) result }
 
     // What is written of a text that is simplified is faithful to the text.
-    ensures headline { IsTrue I.tells → IsTrue O.tells → Headline (bytes_of words.now) (I.texts inputs.old) (O.written out.old) (O.written out.new) result }
+    ensures headline { IsTrue I.tells → IsTrue O.tells
+        → Headline (bytes_of words.now) (I.texts inputs.old) (O.written out.old) (O.written out.new)
+        result }
 
-    // Where FILE is held, short and loads, and no call failed, the work is done, or memory was wanting.
-    ensures complete { IsTrue I.tells → ¬ (Rose (I.faults inputs.old) (I.faults inputs.new)) → ¬ (Rose (O.faults out.old) (O.faults out.new))
+    // Where FILE is held, short and loads, and no call failed, the work is done, or memory was
+    // wanting.
+    ensures complete { IsTrue I.tells → ¬ (Rose (I.faults inputs.old) (I.faults inputs.new))
+        → ¬ (Rose (O.faults out.old) (O.faults out.new))
         → Completes (bytes_of words.now) (I.texts inputs.old) result }
 
-    // Where besides OUT and CERT are held and short, `check` says yes or why not, or memory was wanting.
-    ensures judges { IsTrue I.tells → ¬ (Rose (I.faults inputs.old) (I.faults inputs.new)) → ¬ (Rose (O.faults out.old) (O.faults out.new))
+    // Where besides OUT and CERT are held and short, `check` says yes or why not, or memory was
+    // wanting.
+    ensures judges { IsTrue I.tells → ¬ (Rose (I.faults inputs.old) (I.faults inputs.new))
+        → ¬ (Rose (O.faults out.old) (O.faults out.new))
         → Judges (bytes_of words.now) (I.texts inputs.old) result }
 
-    // Where OUT and CERT are what `simplify` and `layers` answer to FILE with the same options and bound, `check` writes `yes`,
-    // or memory was wanting. What they answer is short enough.
-    ensures reaches_yes { IsTrue I.tells → ¬ (Rose (I.faults inputs.old) (I.faults inputs.new)) → ¬ (Rose (O.faults out.old) (O.faults out.new))
-        → ReachesYes (bytes_of words.now) (I.texts inputs.old) O.tells (O.written out.old) (O.written out.new) result }
+    // Where OUT and CERT are what `simplify` and `layers` answer to FILE with the same options and
+    // bound, `check` writes `yes`, or memory was wanting. What they answer is short enough.
+    ensures reaches_yes { IsTrue I.tells → ¬ (Rose (I.faults inputs.old) (I.faults inputs.new))
+        → ¬ (Rose (O.faults out.old) (O.faults out.new))
+        → ReachesYes (bytes_of words.now) (I.texts inputs.old)
+        O.tells (O.written out.old) (O.written out.new) result }
 
-    // Where OUT is what `simplify` answers to FILE, and short enough, `faces` writes of OUT the lines that it answers to FILE, or
-    // memory was wanting.
-    ensures keeps_lines { IsTrue I.tells → ¬ (Rose (I.faults inputs.old) (I.faults inputs.new)) → ¬ (Rose (O.faults out.old) (O.faults out.new))
-        → KeepsLines (bytes_of words.now) (I.texts inputs.old) O.tells (O.written out.old) (O.written out.new) result }
+    // Where OUT is what `simplify` answers to FILE, and short enough, `faces` writes of OUT the
+    // lines that it answers to FILE, or memory was wanting.
+    ensures keeps_lines { IsTrue I.tells → ¬ (Rose (I.faults inputs.old) (I.faults inputs.new))
+        → ¬ (Rose (O.faults out.old) (O.faults out.new))
+        → KeepsLines (bytes_of words.now) (I.texts inputs.old)
+        O.tells (O.written out.old) (O.written out.new) result }
 
     // A coverage is made and thinned, or a write failed, or memory was wanting.
     ensures made { Makes (bytes_of words.now) result }
@@ -254,7 +278,8 @@ pub fn run<I: Inputs, O: Sink, N: Sink>(
     // The message of each status but Done and No.
     ensures no_note { IsWritten result → note.new ≡ note.old }
     ensures note { IsTrue N.tells → ¬ (IsWritten result)
-        → Notes (N.faults note.old) (N.faults note.new) (N.written note.old) (N.written note.new) (message_of result) }
+        → Notes (N.faults note.old) (N.faults note.new) (N.written note.old) (N.written note.new)
+        (message_of result) }
 {
     let status = answer(alloc, words, inputs, out);
     tell_end(note, &status);

@@ -33,7 +33,8 @@ pub enum Limit {
 pub enum Meeting {
     /// The least pair of edges that clash: by the first, then by the second.
     Edges(EdgeRef, EdgeRef),
-    /// No edges clash. This is the least feature point that lies on an edge, and the least such edge.
+    /// No edges clash. This is the least feature point that lies on an edge, and the least such
+    /// edge.
     PointOnArc(u32, EdgeRef),
 }
 
@@ -64,8 +65,8 @@ pub enum Status {
     WriteFault,
     /// Memory was wanting, before any byte went to the output.
     NoMemory,
-    /// The weights take a position off the grid: the least arc of which they do, and its least such position, equal
-    /// positions in a row taken once.
+    /// The weights take a position off the grid: the least arc of which they do, and its least such
+    /// position, equal positions in a row taken once.
     OffWeights(u32, u32),
 }
 

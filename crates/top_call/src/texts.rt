@@ -3,7 +3,7 @@ ghost use Rattle.std.specs.Prelude.{◌≡◌, ◌≢◌, ◌≤◌, ◌<◌, �
 ghost use Rattle.outside_io.specs.Causes.{Rose};
 ghost use Rattle.outside_io.specs.Texts.{text_of};
 ghost use Rattle.top_call.specs.Requests.{form};
-ghost use Rattle.top_call.specs.Reading.{limit_of, named, texts_read, AreHeld, AreRead, AreShort, IsPast, IsFirstPast, IsReadingStatus};
+ghost use Rattle.top_call.specs.Reading.{limit_of, named, texts_read, AreHeld, AreRead, AreShort, IsPast, IsFirstPast, IsReadingStatus, ReadsNames};
 
 use crate::forms::Request;
 use crate::status::{Limit, Role, Status};
@@ -41,22 +41,30 @@ fn read_text<I: Inputs>(
     name: &str,
     inputs: &mut I,
 ) -> Result<Vec<u8>, Status>
-    ensures whole { IsTrue I.tells → IfOk result (λ text. text_of (I.texts inputs.old) name.now ≡ Some text.items) }
+    ensures whole { IsTrue I.tells
+        → IfOk result (λ text. text_of (I.texts inputs.old) name.now ≡ Some text.items) }
     ensures within { IfOk result (λ text. length text.items ≤ limit_of role) }
     ensures statuses { IfErr result IsReadingStatus }
 
-    ensures read_fault { IsErrOf result Status.ReadFault → Rose (I.faults inputs.old) (I.faults inputs.new) }
+    ensures read_fault { IsErrOf result Status.ReadFault
+        → Rose (I.faults inputs.old) (I.faults inputs.new) }
     ensures no_read_fault { OnOk result (I.faults inputs.new ≡ I.faults inputs.old) }
-    ensures other_fault { IfErr result (λ s. s ≢ Status.ReadFault → I.faults inputs.new ≡ I.faults inputs.old) }
+    ensures other_fault { IfErr result
+        (λ s. s ≢ Status.ReadFault → I.faults inputs.new ≡ I.faults inputs.old) }
     ensures faults { I.faults inputs.old ≤ I.faults inputs.new }
 
-    ensures past { IsTrue I.tells → IfErr result (λ s. (r : Role) → s ≡ Status.TooLarge (Limit.Text r) → (r ≡ role) × IsPast role (text_of (I.texts inputs.old) name.now)) }
-    ensures past_limit { IsTrue I.tells → ¬ (Rose (I.faults inputs.old) (I.faults inputs.new)) → IsPast role (text_of (I.texts inputs.old) name.now)
+    ensures past { IsTrue I.tells
+        → IfErr result (λ s. (r : Role) → s ≡ Status.TooLarge (Limit.Text r) → (r ≡ role)
+        × IsPast role (text_of (I.texts inputs.old) name.now)) }
+    ensures past_limit { IsTrue I.tells → ¬ (Rose (I.faults inputs.old) (I.faults inputs.new))
+        → IsPast role (text_of (I.texts inputs.old) name.now)
         → IsErrOf result (Status.TooLarge (Limit.Text role)) ⊎ IsErrOf result Status.NoMemory }
-    ensures too_large { IfErr result (λ s. (r : Role) → s ≡ Status.TooLarge (Limit.Text r) → limit_of r < I.given inputs.new) }
+    ensures too_large { IfErr result
+        (λ s. (r : Role) → s ≡ Status.TooLarge (Limit.Text r) → limit_of r < I.given inputs.new) }
 
     ensures texts { IsTrue I.tells → I.texts inputs.new ≡ I.texts inputs.old }
-    ensures strays { IsTrue I.tells → IsSome (text_of (I.texts inputs.old) name.now) → I.strays inputs.new ≡ I.strays inputs.old }
+    ensures strays { IsTrue I.tells → IsSome (text_of (I.texts inputs.old) name.now)
+        → I.strays inputs.new ≡ I.strays inputs.old }
 {
     match read_whole(alloc, inputs, name, limit_of(role)) {
         Ok(text) => Ok(text),
@@ -68,25 +76,12 @@ fn read_text<I: Inputs>(
 
 // The text of FILE.
 fn read_one<I: Inputs>(alloc: Global, file: &str, inputs: &mut I) -> Result<Texts, Status>
-    ensures read { IsTrue I.tells → IfOk result (λ texts. AreRead (I.texts inputs.old) ((Role.File, file.now) ∷ []) (texts_read texts)) }
-    ensures short { IfOk result (λ texts. AreShort (texts_read texts)) }
-    ensures statuses { IfErr result IsReadingStatus }
-
-    ensures read_fault { IsErrOf result Status.ReadFault → Rose (I.faults inputs.old) (I.faults inputs.new) }
-    ensures no_read_fault { OnOk result (I.faults inputs.new ≡ I.faults inputs.old) }
-    ensures other_fault { IfErr result (λ s. s ≢ Status.ReadFault → I.faults inputs.new ≡ I.faults inputs.old) }
-
-    ensures past { IsTrue I.tells → IfErr result (λ s. (r : Role) → s ≡ Status.TooLarge (Limit.Text r) → IsFirstPast (I.texts inputs.old) ((Role.File, file.now) ∷ []) r) }
-    ensures past_limit { IsTrue I.tells → ¬ (Rose (I.faults inputs.old) (I.faults inputs.new)) → (r : Role) → IsFirstPast (I.texts inputs.old) ((Role.File, file.now) ∷ []) r
-        → IsErrOf result (Status.TooLarge (Limit.Text r)) ⊎ IsErrOf result Status.NoMemory }
-    ensures too_large { IfErr result (λ s. (r : Role) → s ≡ Status.TooLarge (Limit.Text r) → limit_of r < I.given inputs.new) }
-
-    ensures strays { IsTrue I.tells → AreHeld (I.texts inputs.old) ((Role.File, file.now) ∷ []) → I.strays inputs.new ≡ I.strays inputs.old }
+    ensures reads { ReadsNames I.tells (I.texts inputs.old)
+        ((Role.File, file.now) ∷ [])
+        (I.faults inputs.old) (I.faults inputs.new)
+        (I.strays inputs.old) (I.strays inputs.new) (I.given inputs.new) result }
 {
-    let file = match read_text(alloc, Role::File, file, inputs) {
-        Ok(text) => text,
-        Err(status) => return Err(status),
-    };
+    let file = read_text(alloc, Role::File, file, inputs)?;
     Ok(Texts {
         file,
         out: Vec::new(alloc),
@@ -102,59 +97,31 @@ fn read_three<I: Inputs>(
     cert: &str,
     inputs: &mut I,
 ) -> Result<Texts, Status>
-    ensures read { IsTrue I.tells → IfOk result (λ texts. AreRead (I.texts inputs.old) ((Role.File, file.now) ∷ (Role.Out, out.now) ∷ (Role.Cert, cert.now) ∷ []) (texts_read texts)) }
-    ensures short { IfOk result (λ texts. AreShort (texts_read texts)) }
-    ensures statuses { IfErr result IsReadingStatus }
-
-    ensures read_fault { IsErrOf result Status.ReadFault → Rose (I.faults inputs.old) (I.faults inputs.new) }
-    ensures no_read_fault { OnOk result (I.faults inputs.new ≡ I.faults inputs.old) }
-    ensures other_fault { IfErr result (λ s. s ≢ Status.ReadFault → I.faults inputs.new ≡ I.faults inputs.old) }
-
-    ensures past { IsTrue I.tells → IfErr result (λ s. (r : Role) → s ≡ Status.TooLarge (Limit.Text r) → IsFirstPast (I.texts inputs.old) ((Role.File, file.now) ∷ (Role.Out, out.now) ∷ (Role.Cert, cert.now) ∷ []) r) }
-    ensures past_limit { IsTrue I.tells → ¬ (Rose (I.faults inputs.old) (I.faults inputs.new)) → (r : Role) → IsFirstPast (I.texts inputs.old) ((Role.File, file.now) ∷ (Role.Out, out.now) ∷ (Role.Cert, cert.now) ∷ []) r
-        → IsErrOf result (Status.TooLarge (Limit.Text r)) ⊎ IsErrOf result Status.NoMemory }
-    ensures too_large { IfErr result (λ s. (r : Role) → s ≡ Status.TooLarge (Limit.Text r) → limit_of r < I.given inputs.new) }
-
-    ensures strays { IsTrue I.tells → AreHeld (I.texts inputs.old) ((Role.File, file.now) ∷ (Role.Out, out.now) ∷ (Role.Cert, cert.now) ∷ []) → I.strays inputs.new ≡ I.strays inputs.old }
+    ensures reads { ReadsNames I.tells (I.texts inputs.old)
+        ((Role.File, file.now) ∷ (Role.Out, out.now) ∷ (Role.Cert, cert.now) ∷ [])
+        (I.faults inputs.old) (I.faults inputs.new)
+        (I.strays inputs.old) (I.strays inputs.new) (I.given inputs.new) result }
 {
-    let file = match read_text(alloc, Role::File, file, inputs) {
-        Ok(text) => text,
-        Err(status) => return Err(status),
-    };
-    let out = match read_text(alloc, Role::Out, out, inputs) {
-        Ok(text) => text,
-        Err(status) => return Err(status),
-    };
-    let cert = match read_text(alloc, Role::Cert, cert, inputs) {
-        Ok(text) => text,
-        Err(status) => return Err(status),
-    };
+    let file = read_text(alloc, Role::File, file, inputs)?;
+    let out = read_text(alloc, Role::Out, out, inputs)?;
+    let cert = read_text(alloc, Role::Cert, cert, inputs)?;
     Ok(Texts { file, out, cert })
 }
 
-/// The texts that the request names, read in the order FILE, OUT, CERT. The first that is not held or is past its
-/// limit ends the reading. A text is begun anew each time, and a request that names none reads nothing.
+/// The texts that the request names, read in the order FILE, OUT, CERT. The first that is not held
+/// or is past its limit ends the reading. A text is begun anew each time, and a request that names
+/// none reads nothing.
 pub fn read_texts<I: Inputs>(
     alloc: Global,
     request: &Request<'_>,
     inputs: &mut I,
 ) -> Result<Texts, Status>
-    ensures read { IsTrue I.tells → IfOk result (λ texts. AreRead (I.texts inputs.old) (named (form request.now)) (texts_read texts)) }
-    ensures short { IfOk result (λ texts. AreShort (texts_read texts)) }
-    ensures statuses { IfErr result IsReadingStatus }
+    ensures reads { ReadsNames I.tells (I.texts inputs.old)
+        (named (form request.now))
+        (I.faults inputs.old) (I.faults inputs.new)
+        (I.strays inputs.old) (I.strays inputs.new) (I.given inputs.new) result }
     ensures unread { named (form request.now) ≡ [] → inputs.new ≡ inputs.old }
     ensures unnamed { named (form request.now) ≡ [] → IsOk result }
-
-    ensures read_fault { IsErrOf result Status.ReadFault → Rose (I.faults inputs.old) (I.faults inputs.new) }
-    ensures no_read_fault { OnOk result (I.faults inputs.new ≡ I.faults inputs.old) }
-    ensures other_fault { IfErr result (λ s. s ≢ Status.ReadFault → I.faults inputs.new ≡ I.faults inputs.old) }
-
-    ensures past { IsTrue I.tells → IfErr result (λ s. (r : Role) → s ≡ Status.TooLarge (Limit.Text r) → IsFirstPast (I.texts inputs.old) (named (form request.now)) r) }
-    ensures past_limit { IsTrue I.tells → ¬ (Rose (I.faults inputs.old) (I.faults inputs.new)) → (r : Role) → IsFirstPast (I.texts inputs.old) (named (form request.now)) r
-        → IsErrOf result (Status.TooLarge (Limit.Text r)) ⊎ IsErrOf result Status.NoMemory }
-    ensures too_large { IfErr result (λ s. (r : Role) → s ≡ Status.TooLarge (Limit.Text r) → limit_of r < I.given inputs.new) }
-
-    ensures strays { IsTrue I.tells → AreHeld (I.texts inputs.old) (named (form request.now)) → I.strays inputs.new ≡ I.strays inputs.old }
 {
     match request {
         Request::Simplify(_, _, file) => read_one(alloc, file, inputs),

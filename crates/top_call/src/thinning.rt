@@ -18,7 +18,8 @@ use std::alloc::Global;
 use topo_reader::Span;
 use topo_writer::{arcs_text, splice};
 
-/// The text with the arcs of a map in place of the value of its `arcs`. The only error is want of memory.
+/// The text with the arcs of a map in place of the value of its `arcs`. The only error is want of
+/// memory.
 pub fn put_back(
     alloc: Global,
     text: &[u8],
@@ -27,14 +28,16 @@ pub fn put_back(
 ) -> Result<Vec<u8>, NoMemory>
     requires small { length text.now ≤ 2 ^ 26 }
     requires span { LiesIn text.now arcs_at }
-    ensures value { IfOk result (λ bytes. bytes.items ≡ spliced text.now arcs_at.start arcs_at.end (arcs_text_of map.now)) }
+    ensures value { IfOk result (λ bytes. bytes.items ≡ spliced text.now arcs_at.start arcs_at.end
+        (arcs_text_of map.now)) }
     ensures short { IfOk result (λ bytes. length bytes.items ≤ 2 ^ 27) }
 {
     let arcs = arcs_text(alloc, map)?;
     splice(alloc, text, arcs_at, &arcs)
 }
 
-/// The version of the certificate that the options demand: 3 with weights, else 2 with held arcs, else 1.
+/// The version of the certificate that the options demand: 3 with weights, else 2 with held arcs,
+/// else 1.
 pub fn version_of(options: &Options) -> u32
     ensures { result ≡ version_of options.now }
 {
@@ -44,8 +47,8 @@ pub fn version_of(options: &Options) -> u32
     }
 }
 
-/// The text of a topology with its arcs thinned within the bound. The errors are the statuses with which the text is
-/// refused, and want of memory.
+/// The text of a topology with its arcs thinned within the bound. The errors are the statuses with
+/// which the text is refused, and want of memory.
 pub fn simplified(
     alloc: Global,
     options: &Options,
@@ -71,7 +74,8 @@ pub fn simplified(
     }
 }
 
-/// The certificate of thinning the arcs of a topology within the bound. The errors are those of `simplified`.
+/// The certificate of thinning the arcs of a topology within the bound. The errors are those of
+/// `simplified`.
 pub fn certified(
     alloc: Global,
     options: &Options,

@@ -50,7 +50,8 @@ fn entry_line(entry: u32, words: &'static str) -> [Part; 7]
 
 // A line that speaks of a step in an entry of the certificate.
 fn step_line(entry: u32, words: &'static str, from: u32, to: u32) -> [Part; 7]
-    ensures { spelled result ≡ codes "no: chain " ++ decimal entry ++ words.entry.now ++ decimal «from» ++ codes " " ++ decimal to ++ codes "\n" }
+    ensures { spelled result ≡ codes "no: chain " ++ decimal entry ++ words.entry.now
+        ++ decimal «from» ++ codes " " ++ decimal to ++ codes "\n" }
 {
     [
         Part::Words("no: chain "),

@@ -24,8 +24,8 @@ enum Task {
     Check,
 }
 
-// The number from `least` to `most` that a word spells in decimal digits, with no sign and no leading zero. `None`
-// where it spells no such number.
+// The number from `least` to `most` that a word spells in decimal digits, with no sign and no
+// leading zero. `None` where it spells no such number.
 fn parse_between(word: &str, least: u32, most: u32) -> Option<u32>
     ensures value { result ≡ number_between least most word.now }
     ensures least { IfSome result (λ number. least ≤ number) }
@@ -180,7 +180,8 @@ fn three_named<'a>(
     out: &'a str,
     cert: &'a str,
 ) -> Option<Request<'a>>
-    ensures { option_map form result ≡ named_form task options bound (file.entry.now ∷ out.entry.now ∷ cert.entry.now ∷ []) }
+    ensures { option_map form result ≡ named_form task options bound
+        (file.entry.now ∷ out.entry.now ∷ cert.entry.now ∷ []) }
 {
     match task {
         Task::Check if are_names(file, out, cert) => {
@@ -246,8 +247,8 @@ fn commanded<'a>(command: &str, words: &'a [String]) -> Option<Request<'a>>
     }
 }
 
-/// The request that the words spell, with its numbers in decimal and within their limits. `None` exactly where they
-/// spell no such request. It takes no memory.
+/// The request that the words spell, with its numbers in decimal and within their limits. `None`
+/// exactly where they spell no such request. It takes no memory.
 
 pub fn request(words: &[String]) -> Option<Request<'_>>
     ensures value { option_map form result ≡ form_of (bytes_of words.now) }

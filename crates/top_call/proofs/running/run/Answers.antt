@@ -16,12 +16,12 @@ returns-clause-headline g c = λ tells told.
 pub returns-clause-complete : goal.returns-clause-complete
 returns-clause-complete g c = λ tells no_read no_write.
     completes (bytes_of c.args.words.now) (g.I.Inputs.texts c.args.inputs.now) g.O.Sink.tells (g.O.Sink.written c.args.out.now) (g.O.Sink.written c.answer-status.new.out) c.answer-status.result (c.answer-status.ensures.answers tells)
-    (λ is. no_read (c.answer-status.ensures.reads.read_fault is)) (λ is. no_write (c.answer-status.ensures.write_fault is))
+    (λ is. no_read (c.answer-status.ensures.reads.fault.rose is)) (λ is. no_write (c.answer-status.ensures.fault.rose is))
 
 pub returns-clause-judges : goal.returns-clause-judges
 returns-clause-judges g c = λ tells no_read no_write.
     judges (bytes_of c.args.words.now) (g.I.Inputs.texts c.args.inputs.now) g.O.Sink.tells (g.O.Sink.written c.args.out.now) (g.O.Sink.written c.answer-status.new.out) c.answer-status.result (c.answer-status.ensures.answers tells)
-    (λ is. no_read (c.answer-status.ensures.reads.read_fault is)) (λ is. no_write (c.answer-status.ensures.write_fault is))
+    (λ is. no_read (c.answer-status.ensures.reads.fault.rose is)) (λ is. no_write (c.answer-status.ensures.fault.rose is))
 
 pub returns-clause-exactly : goal.returns-clause-exactly
 returns-clause-exactly g c = λ tells a is.
@@ -33,9 +33,9 @@ returns-clause-exactly g c = λ tells a is.
 pub returns-clause-reaches_yes : goal.returns-clause-reaches_yes
 returns-clause-reaches_yes g c = λ tells no_read no_write.
     reaches_yes (bytes_of c.args.words.now) (g.I.Inputs.texts c.args.inputs.now) g.O.Sink.tells (g.O.Sink.written c.args.out.now) (g.O.Sink.written c.answer-status.new.out) c.answer-status.result (c.answer-status.ensures.answers tells)
-    (λ is. no_read (c.answer-status.ensures.reads.read_fault is)) (λ is. no_write (c.answer-status.ensures.write_fault is))
+    (λ is. no_read (c.answer-status.ensures.reads.fault.rose is)) (λ is. no_write (c.answer-status.ensures.fault.rose is))
 
 pub returns-clause-keeps_lines : goal.returns-clause-keeps_lines
 returns-clause-keeps_lines g c = λ tells no_read no_write.
     keeps_lines (bytes_of c.args.words.now) (g.I.Inputs.texts c.args.inputs.now) g.O.Sink.tells (g.O.Sink.written c.args.out.now) (g.O.Sink.written c.answer-status.new.out) c.answer-status.result (c.answer-status.ensures.answers tells)
-    (λ is. no_read (c.answer-status.ensures.reads.read_fault is)) (λ is. no_write (c.answer-status.ensures.write_fault is))
+    (λ is. no_read (c.answer-status.ensures.reads.fault.rose is)) (λ is. no_write (c.answer-status.ensures.fault.rose is))
