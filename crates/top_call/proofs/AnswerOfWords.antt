@@ -57,7 +57,8 @@ short_as read File short = short.file
 short_as read Out short = short.out
 short_as read Cert short = short.cert
 
-read_not_past : (texts : Texts) (names : List Named) (read : Read) (role : Role) → AreRead texts names read → AreShort read → IsFirstPast texts names role → ⊥
+read_not_past : (texts : Texts) (names : List Named) (read : Read) (role : Role) → AreRead texts names read → AreShort read
+    → IsFirstPast texts names role → ⊥
 read_not_past texts [] read role are short past = past
 read_not_past texts (n ∷ ns) read role are short (inl past) =
     let there : limit_of n.0 < length (read_as read n.0) = subst (IsPast n.0) are.0 past.1 in
@@ -81,12 +82,14 @@ one_run options bound text t u held arcs after other records others first second
     let one = outcome_is_one t.map (terms_of options bound held) after other records others first.outcome by_held in
     record { topology = same.topology; held_arcs = same.held_arcs; outcome = one.0; records_are = one.1 }
 
-simplified_is_one : (options : Options) (bound : ℤ) (text x y : List ℕ) → IsSimplified options bound text x → IsSimplified options bound text y → x ≡ y
+simplified_is_one : (options : Options) (bound : ℤ) (text x y : List ℕ) → IsSimplified options bound text x
+    → IsSimplified options bound text y → x ≡ y
 simplified_is_one options bound text x y first second =
     let one = one_run options bound text first.topology second.topology first.held second.held first.after second.after first.records second.records first.run second.run in
     first.written ∙ ap (λ (t : TopologyRead). text_with text t first.after) one.topology ∙ ap (text_with text second.topology) one.outcome ∙ sym second.written
 
-certified_is_one : (options : Options) (bound : ℤ) (text x y : List ℕ) → IsCertified options bound text x → IsCertified options bound text y → x ≡ y
+certified_is_one : (options : Options) (bound : ℤ) (text x y : List ℕ) → IsCertified options bound text x → IsCertified options bound text y
+    → x ≡ y
 certified_is_one options bound text x y first second =
     let one = one_run options bound text first.topology second.topology first.held second.held first.after second.after first.records second.records first.run second.run in
     first.written
@@ -113,19 +116,22 @@ demoed_is_one rows cols seed bound x y first second =
     ∙ sym second.written
 
 -- what is written of a text is one, and a text of which something is written is not refused
-map_answer_is_one : (options : Options) (text : List ℕ) (W : List ℕ → Type 0) (a b : Answer) → ((x y : List ℕ) → W x → W y → x ≡ y) → ((x : List ℕ) (s : Status) → W x → IsRefusal options text s → ⊥) → IsMapAnswer options text W a → IsMapAnswer options text W b → a ≡ b
+map_answer_is_one : (options : Options) (text : List ℕ) (W : List ℕ → Type 0) (a b : Answer) → ((x y : List ℕ) → W x → W y → x ≡ y)
+    → ((x : List ℕ) (s : Status) → W x → IsRefusal options text s → ⊥) → IsMapAnswer options text W a → IsMapAnswer options text W b → a ≡ b
 map_answer_is_one options text W a b one never (Refused s why is) (Refused u also too) = is ∙ ap refused (refusal_is_one options text s u why also) ∙ sym too
 map_answer_is_one options text W a b one never (Refused s why is) (Written y written too) = absurd (never y s written why)
 map_answer_is_one options text W a b one never (Written x written is) (Refused u also too) = absurd (never x u written also)
 map_answer_is_one options text W a b one never (Written x written is) (Written y also too) = is ∙ ap done (one x y written also) ∙ sym too
 
 -- a verdict is told of a text that loads
-checked_not_refused : (options : Options) (bound : ℤ) (read : Read) (v : Verdict) (s : Status) → IsChecked options bound read v → IsRefusal options read.file s → ⊥
+checked_not_refused : (options : Options) (bound : ℤ) (read : Read) (v : Verdict) (s : Status) → IsChecked options bound read v
+    → IsRefusal options read.file s → ⊥
 checked_not_refused options bound read v s (NotCertificate t held loaded none is) why = loaded_not_refused options read.file t held s loaded why
 checked_not_refused options bound read v s (IsRefuted t reason after judged is) why = loaded_not_refused options read.file t judged.held s judged.loaded why
 checked_not_refused options bound read v s (IsCompared t after judged found) why = loaded_not_refused options read.file t judged.held s judged.loaded why
 
-check_answer_is_one : (options : Options) (bound : ℤ) (read : Read) (a b : Answer) → IsCheckAnswer options bound read a → IsCheckAnswer options bound read b → a ≡ b
+check_answer_is_one : (options : Options) (bound : ℤ) (read : Read) (a b : Answer) → IsCheckAnswer options bound read a
+    → IsCheckAnswer options bound read b → a ≡ b
 check_answer_is_one options bound read a b (RefusedFile s why is) (RefusedFile u also too) = is ∙ ap refused (refusal_is_one options read.file s u why also) ∙ sym too
 check_answer_is_one options bound read a b (RefusedFile s why is) (Told w checked too) = absurd (checked_not_refused options bound read w s checked why)
 check_answer_is_one options bound read a b (Told v checked is) (RefusedFile u also too) = absurd (checked_not_refused options bound read v u checked also)
@@ -141,7 +147,8 @@ same_reads r s file out cert =
 same_read : (text : Option (List ℕ)) (xs ys : List ℕ) → text ≡ Some xs → text ≡ Some ys → ys ≡ xs
 same_read text xs ys first second = same_Some ys xs (sym second ∙ first)
 
-work_answer_is_one : (f : Form) (texts : Texts) (read other : Read) (a b : Answer) → AreRead texts (named f) read → AreRead texts (named f) other → IsWorkAnswer f read a → IsWorkAnswer f other b → a ≡ b
+work_answer_is_one : (f : Form) (texts : Texts) (read other : Read) (a b : Answer) → AreRead texts (named f) read
+    → AreRead texts (named f) other → IsWorkAnswer f read a → IsWorkAnswer f other b → a ≡ b
 work_answer_is_one (Simplify options bound file) texts read other a b are also first second =
     let same = same_read (text_of texts file) read.file other.file are.0 also.0 in
     map_answer_is_one options read.file (IsSimplified options bound read.file) a b (simplified_is_one options bound read.file) (λ x s is. loaded_not_refused options read.file is.topology is.held s is.run.loaded) first

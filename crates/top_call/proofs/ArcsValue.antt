@@ -19,12 +19,14 @@ second_is t NoEntries v h = cc
 second_is t (NextEntry e word u others) v h = absurd cc
 
 -- the value that a name has is that of the first member, or that which the name has behind it
-first_or_behind : (name word : List ℕ) (e : Extent) (t : Tree) (others : Entries) (v : Tree) (b : Bool) → at_first name (if b then NextEntry e word t others else named name others) ≡ OnceIn v → (t ≡ v) ⊎ (lookup name others ≡ OnceIn v)
+first_or_behind : (name word : List ℕ) (e : Extent) (t : Tree) (others : Entries) (v : Tree) (b : Bool)
+    → at_first name (if b then NextEntry e word t others else named name others) ≡ OnceIn v → (t ≡ v) ⊎ (lookup name others ≡ OnceIn v)
 first_or_behind name word e t others v true h = inl (second_is t (named name others) v h)
 first_or_behind name word e t others v false h = inr h
 
 -- a value that is found among the members of a text is a value of the text
-found_is_value : (s : ScanView) (name : List ℕ) (k end : ℕ) (members : Entries) (v : Tree) → EntriesAre s k end members → lookup name members ≡ OnceIn v → (j : ℕ) × NodeIs s j v
+found_is_value : (s : ScanView) (name : List ℕ) (k end : ℕ) (members : Entries) (v : Tree) → EntriesAre s k end members
+    → lookup name members ≡ OnceIn v → (j : ℕ) × NodeIs s j v
 found_is_value s name k end NoEntries v are h = absurd cc
 found_is_value s name k end (NextEntry e word t others) v are h =
     elim (first_or_behind name word e t others v (bytes_eq word name) h) [
@@ -44,7 +46,8 @@ record LiesWithin (s : ScanView) (e : Extent) : Type 0 where
   forwards : e.start ≤ e.end
   within : e.end ≤ length s.bytes
 
-object_lies : (s : ScanView) (k end : ℕ) (holder : Tree) (members : Entries) (t : TopologyRead) → EntriesAre s k end members → topology_from holder members ≡ Ok t → LiesWithin s t.arcs_at
+object_lies : (s : ScanView) (k end : ℕ) (holder : Tree) (members : Entries) (t : TopologyRead) → EntriesAre s k end members
+    → topology_from holder members ≡ Ok t → LiesWithin s t.arcs_at
 object_lies s k end holder members t are h =
     let headed = then-ok (header_of holder members) _ t h in
     let valued = then-ok (required (codes "arcs") holder members) _ t headed.2 in

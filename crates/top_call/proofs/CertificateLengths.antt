@@ -31,7 +31,8 @@ list_fits : (ts : List (List ℕ)) → length (listed ts) ≤ 2 + length (furthe
 list_fits [] = omega arith
 list_fits (t ∷ ts) = omega (arith, listed_fits t ts)
 
-numbers_listed : (digits : ℕ) (ns : List ℕ) → 0 < length ns → All (λ n. length (decimal n) ≤ digits) ns → length (numbers_text ns) ≤ 1 + room digits ns
+numbers_listed : (digits : ℕ) (ns : List ℕ) → 0 < length ns → All (λ n. length (decimal n) ≤ digits) ns
+    → length (numbers_text ns) ≤ 1 + room digits ns
 numbers_listed digits [] some short = absurd (omega (arith, some))
 numbers_listed digits (n ∷ ns) some short = omega (arith, listed_fits (decimal n) (map decimal ns), numbers_fit digits (n ∷ ns) short)
 
@@ -79,15 +80,18 @@ pub record IsOfEdges (m : ℕ) (r : Record) : Type 0 where
 five_texts : (a b c d e : List ℕ) → length (a ++ b ++ c ++ d ++ e) ≡ length a + length b + length c + length d + length e
 five_texts a b c d e = omega (arith, length-append a b, length-append (a ++ b) c, length-append (a ++ b ++ c) d, length-append (a ++ b ++ c ++ d) e)
 
-nine_texts : (a b c d e f g h i : List ℕ) → length (a ++ b ++ c ++ d ++ e ++ f ++ g ++ h ++ i) ≡ length a + length b + length c + length d + length e + length f + length g + length h + length i
+nine_texts : (a b c d e f g h i : List ℕ)
+    → length (a ++ b ++ c ++ d ++ e ++ f ++ g ++ h ++ i) ≡ length a + length b + length c + length d + length e + length f + length g + length h + length i
 nine_texts a b c d e f g h i = omega (arith, five_texts a b c d e, five_texts (a ++ b ++ c ++ d ++ e) f g h i)
 
 -- the bytes of a record, part by part
-record_parts : (r : Record) → length (record_text r) ≡ 34 + length (decimal r.arc) + length (decimal r.«from») + length (numbers_text r.kept) + length (numbers_text r.layers)
+record_parts : (r : Record)
+    → length (record_text r) ≡ 34 + length (decimal r.arc) + length (decimal r.«from») + length (numbers_text r.kept) + length (numbers_text r.layers)
 record_parts r = omega (arith, nine_texts (codes "{\"arc\":") (decimal r.arc) (codes ",\"from\":") (decimal r.«from») (codes ",\"kept\":") (numbers_text r.kept) (codes ",\"layers\":") (numbers_text r.layers) (codes "}"))
 
 -- where no number has more digits than these
-record_fits : (digits : ℕ) (m : ℕ) (r : Record) → IsOfEdges m r → ((n : ℕ) → n ≤ m → length (decimal n) ≤ digits) → length (record_text r) ≤ 50 + room digits r.kept + room digits r.layers
+record_fits : (digits : ℕ) (m : ℕ) (r : Record) → IsOfEdges m r → ((n : ℕ) → n ≤ m → length (decimal n) ≤ digits)
+    → length (record_text r) ≤ 50 + room digits r.kept + room digits r.layers
 record_fits digits m r is short =
     let kept = numbers_listed digits r.kept is.some_kept (λ k d below. short _ (is.kept k d below)) in
     let layers = numbers_listed digits r.layers (omega (arith, is.layer_count)) (λ k d below. short _ (is.layers k d below)) in
@@ -132,7 +136,8 @@ weights_fit version wx wy across up = at_version (nat_le 3 version)
     at_version true = omega (arith, length-append (codes ",\"weights\":") (numbers_text (wx ∷ wy ∷ [])), both)
     at_version false = omega arith
 
-eight_texts : (a b c d e f g h : List ℕ) → length (a ++ b ++ c ++ d ++ e ++ f ++ g ++ h) ≡ length a + length b + length c + length d + length e + length f + length g + length h
+eight_texts : (a b c d e f g h : List ℕ)
+    → length (a ++ b ++ c ++ d ++ e ++ f ++ g ++ h) ≡ length a + length b + length c + length d + length e + length f + length g + length h
 eight_texts a b c d e f g h =
     omega (arith, five_texts a b c d e, length-append (a ++ b ++ c ++ d ++ e) f, length-append (a ++ b ++ c ++ d ++ e ++ f) g, length-append (a ++ b ++ c ++ d ++ e ++ f ++ g) h)
 
@@ -144,7 +149,8 @@ pub record HasShortParts (c : Content) : Type 0 where
   pub up : c.wy ≤ 65536
   pub held : All (λ n. n < 2 ^ 20) c.held
 
-pub certificate_fits : (c : Content) → HasShortParts c → length (certificate_text c) ≤ 78 + length (further (map record_text c.entries)) + 8 * length c.held
+pub certificate_fits : (c : Content) → HasShortParts c
+    → length (certificate_text c) ≤ 78 + length (further (map record_text c.entries)) + 8 * length c.held
 certificate_fits c is =
     omega (
       arith,

@@ -30,7 +30,8 @@ pub arc_is_some : (ps : List Place) → IsArc ps → 0 < length ps
 arc_is_some [] is = absurd is
 arc_is_some (p ∷ ps) is = omega arith
 
-pub edges_of_arcs : (arc : ℕ) (pss : List (List Place)) (ks : List Chain) → All IsArc pss → AreChainsOf arc pss ks → sum_by edge_count ks + length pss ≡ sum_by length pss
+pub edges_of_arcs : (arc : ℕ) (pss : List (List Place)) (ks : List Chain) → All IsArc pss → AreChainsOf arc pss ks
+    → sum_by edge_count ks + length pss ≡ sum_by length pss
 edges_of_arcs arc [] ks are cut = omega (arith, ap (sum_by edge_count) cut)
 edges_of_arcs arc (ps ∷ pss) ks are cut =
     let some = arc_is_some ps (All-head IsArc ps pss are) in

@@ -34,7 +34,9 @@ record IsOfFile (texts : Texts) (file : List ℕ) (W : List ℕ → List ℕ →
   short : length text ≤ 2 ^ 26
   is : W text bytes
 
-of_file : (f : Form) (options : Options) (texts : Texts) (file : List ℕ) (W : List ℕ → List ℕ → Type 0) (bytes : List ℕ) → named f ≡ (File, file) ∷ [] → ((read : Read) (a : Answer) → IsWorkAnswer f read a → IsMapAnswer options read.file (W read.file) a) → IsFormAnswer f texts (done bytes) → IsOfFile texts file W bytes
+of_file : (f : Form) (options : Options) (texts : Texts) (file : List ℕ) (W : List ℕ → List ℕ → Type 0) (bytes : List ℕ)
+    → named f ≡ (File, file) ∷ [] → ((read : Read) (a : Answer) → IsWorkAnswer f read a → IsMapAnswer options read.file (W read.file) a)
+    → IsFormAnswer f texts (done bytes) → IsOfFile texts file W bytes
 of_file f options texts file W bytes names works (NotHeld none is) =
     let never : Done ≡ ReadFault = ap (λ (a : Answer). a.status) is in
     absurd cc
@@ -45,18 +47,23 @@ of_file f options texts file W bytes names works (Worked read are short work) =
     let here = subst (λ (ns : List Named). AreRead texts ns read) names are in
     record { text = read.file; is_held = here.0; short = short.file; is = written_by options read.file (W read.file) bytes (works read (done bytes) work) }
 
-simplified_of : (options : Options) (bound : ℤ) (texts : Texts) (file bytes : List ℕ) → IsFormAnswer (Simplify options bound file) texts (done bytes) → IsOfFile texts file (IsSimplified options bound) bytes
+simplified_of : (options : Options) (bound : ℤ) (texts : Texts) (file bytes : List ℕ)
+    → IsFormAnswer (Simplify options bound file) texts (done bytes) → IsOfFile texts file (IsSimplified options bound) bytes
 simplified_of options bound texts file bytes is = of_file (Simplify options bound file) options texts file (IsSimplified options bound) bytes refl (λ read a work. work) is
 
-certified_of : (options : Options) (bound : ℤ) (texts : Texts) (file bytes : List ℕ) → IsFormAnswer (Layers options bound file) texts (done bytes) → IsOfFile texts file (IsCertified options bound) bytes
+certified_of : (options : Options) (bound : ℤ) (texts : Texts) (file bytes : List ℕ)
+    → IsFormAnswer (Layers options bound file) texts (done bytes) → IsOfFile texts file (IsCertified options bound) bytes
 certified_of options bound texts file bytes is = of_file (Layers options bound file) options texts file (IsCertified options bound) bytes refl (λ read a work. work) is
 
-faced_of : (texts : Texts) (file bytes : List ℕ) → IsFormAnswer (Faces file) texts (done bytes) → IsOfFile texts file (λ text lines. IsFaced text lines) bytes
+faced_of : (texts : Texts) (file bytes : List ℕ) → IsFormAnswer (Faces file) texts (done bytes)
+    → IsOfFile texts file (λ text lines. IsFaced text lines) bytes
 faced_of texts file bytes is = of_file (Faces file) plain texts file (λ text lines. IsFaced text lines) bytes refl (λ read a work. work) is
 
 -- ---- a run of a form whose answer is known
 
-finished : (words : List (List ℕ)) (texts : Texts) (tells : Bool) (before now : List ℕ) (s : Status) (f : Form) (bytes : List ℕ) → Settles (IsAnswer words texts) tells before now s → s ≢ ReadFault → s ≢ WriteFault → form_of words ≡ Some f → IsFormAnswer f texts (done bytes) → Finishes tells before now bytes s
+finished : (words : List (List ℕ)) (texts : Texts) (tells : Bool) (before now : List ℕ) (s : Status) (f : Form) (bytes : List ℕ)
+    → Settles (IsAnswer words texts) tells before now s → s ≢ ReadFault → s ≢ WriteFault → form_of words ≡ Some f
+    → IsFormAnswer f texts (done bytes) → Finishes tells before now bytes s
 finished words texts tells before now s f bytes settled read write is_form is =
     elim (answered (IsAnswer words texts) tells before now s read write settled) [
       | inl none ↦ inr none
@@ -67,7 +74,8 @@ finished words texts tells before now s f bytes settled read write is_form is =
 
 -- ---- yes
 
-yes_answered : (options : Options) (bound : ℤ) (texts : Texts) (file out cert : List ℕ) → IsWithinLimits (Check options bound file out cert) → AreWrittenFor options bound texts file out cert → IsFormAnswer (Check options bound file out cert) texts (done (verdict_line Yes))
+yes_answered : (options : Options) (bound : ℤ) (texts : Texts) (file out cert : List ℕ) → IsWithinLimits (Check options bound file out cert)
+    → AreWrittenFor options bound texts file out cert → IsFormAnswer (Check options bound file out cert) texts (done (verdict_line Yes))
 yes_answered options bound texts file out cert limits are =
     let thinned = simplified_of options bound texts file are.written are.simplified in
     let other = certified_of options bound texts file are.certificate are.certified in
@@ -83,14 +91,16 @@ yes_answered options bound texts file out cert limits are =
     })
     (Told Yes checked refl)
 
-pub reaches_yes : (words : List (List ℕ)) (texts : Texts) (tells : Bool) (before now : List ℕ) (s : Status) → Settles (IsAnswer words texts) tells before now s → s ≢ ReadFault → s ≢ WriteFault → ReachesYes words texts tells before now s
+pub reaches_yes : (words : List (List ℕ)) (texts : Texts) (tells : Bool) (before now : List ℕ) (s : Status)
+    → Settles (IsAnswer words texts) tells before now s → s ≢ ReadFault → s ≢ WriteFault → ReachesYes words texts tells before now s
 reaches_yes words texts tells before now s settled read write options bound file out cert is_form are =
     let limits = (form_spells words (Some (Check options bound file out cert)) (sym is_form)).1 in
     finished words texts tells before now s (Check options bound file out cert) (verdict_line Yes) settled read write is_form (yes_answered options bound texts file out cert limits are)
 
 -- ---- the lines of FILE
 
-lines_answered : (options : Options) (bound : ℤ) (texts : Texts) (file out lines : List ℕ) → IsWrittenFor options bound texts file out → IsFormAnswer (Faces file) texts (done lines) → IsFormAnswer (Faces out) texts (done lines)
+lines_answered : (options : Options) (bound : ℤ) (texts : Texts) (file out lines : List ℕ) → IsWrittenFor options bound texts file out
+    → IsFormAnswer (Faces file) texts (done lines) → IsFormAnswer (Faces out) texts (done lines)
 lines_answered options bound texts file out lines are is =
     let thinned = simplified_of options bound texts file are.written are.simplified in
     let other = faced_of texts file lines is in
@@ -99,13 +109,15 @@ lines_answered options bound texts file out lines are is =
     let only = lines_written options bound thinned.text are.written lines thinned.is faced in
     Worked (record { file = are.written; out = []; cert = [] }) (are.is_held, tt) (record { file = are.short; out = omega arith; cert = omega arith }) ((only (done lines)).1 refl)
 
-file_has_lines : (options : Options) (bound : ℤ) (texts : Texts) (file out : List ℕ) → IsWrittenFor options bound texts file out → options.hold ≡ false → (lines : List ℕ) × IsFormAnswer (Faces file) texts (done lines)
+file_has_lines : (options : Options) (bound : ℤ) (texts : Texts) (file out : List ℕ) → IsWrittenFor options bound texts file out
+    → options.hold ≡ false → (lines : List ℕ) × IsFormAnswer (Faces file) texts (done lines)
 file_has_lines options bound texts file out are none =
     let thinned = simplified_of options bound texts file are.written are.simplified in
     let has = plain_lines options bound thinned.text are.written none are.limits.0 thinned.is in
     (has.0, Worked (record { file = thinned.text; out = []; cert = [] }) (thinned.is_held, tt) (record { file = thinned.short; out = omega arith; cert = omega arith }) (Written has.0 has.1 refl))
 
-pub keeps_lines : (words : List (List ℕ)) (texts : Texts) (tells : Bool) (before now : List ℕ) (s : Status) → Settles (IsAnswer words texts) tells before now s → s ≢ ReadFault → s ≢ WriteFault → KeepsLines words texts tells before now s
+pub keeps_lines : (words : List (List ℕ)) (texts : Texts) (tells : Bool) (before now : List ℕ) (s : Status)
+    → Settles (IsAnswer words texts) tells before now s → s ≢ ReadFault → s ≢ WriteFault → KeepsLines words texts tells before now s
 keeps_lines words texts tells before now s settled read write options bound file out is_form are =
     record {
       has_lines = file_has_lines options bound texts file out are;

@@ -65,7 +65,8 @@ first_off_is_one w places k l first second = elim (cases_order k l) [
   ]
 ]
 
-off_is_one : (w : Scales) (arcs : List (List Place)) (a b k l : ℕ) → IsFirstOffIn w arcs a k → IsFirstOffIn w arcs b l → OffWeights a k ≡ OffWeights b l
+off_is_one : (w : Scales) (arcs : List (List Place)) (a b k l : ℕ) → IsFirstOffIn w arcs a k → IsFirstOffIn w arcs b l
+    → OffWeights a k ≡ OffWeights b l
 off_is_one w arcs a b k l first second = elim (cases_order a b) [
   | inl same ↦
       let there = subst (λ (arc : ℕ). IsFirstOff w (get_or arcs arc []) l) (sym same) second.first in
@@ -142,7 +143,8 @@ unarranged_is_one hold m s u (OnArc k g none point is) (Clash e f also least too
 -- ---- all refusals
 
 -- weights that are named leave no position off the grid where all stay on it
-named_stay : (options : Options) (text : List ℕ) (t v : TopologyRead) (w : Scales) (arc at : ℕ) → HasTopology text t → HasTopology text v → options.weights ≡ Some w → IsFirstOffIn w t.map.arcs arc at → StayOnGrid options v.map → ⊥
+named_stay : (options : Options) (text : List ℕ) (t v : TopologyRead) (w : Scales) (arc at : ℕ) → HasTopology text t → HasTopology text v
+    → options.weights ≡ Some w → IsFirstOffIn w t.map.arcs arc at → StayOnGrid options v.map → ⊥
 named_stay options text t v w arc at has also named off stay =
     let same = text_has_one_topology text v t also has in
     let by_weights = subst (λ (ws : Option Scales). All (All (StaysOnGrid (scales_of ws))) v.map.arcs) named stay in

@@ -56,7 +56,8 @@ compared expected out (No (reasons.Path n i j)) found = absurd found
 compared expected out (No (reasons.Ends n)) found = absurd found
 compared expected out (No (reasons.Layers n i j)) found = absurd found
 
-comparison_is_one : (expected out : List ℕ) (v w : Verdict) → Compared expected out v → IsComparison expected out v → IsComparison expected out w → Compared expected out w → v ≡ w
+comparison_is_one : (expected out : List ℕ) (v w : Verdict) → Compared expected out v → IsComparison expected out v
+    → IsComparison expected out w → Compared expected out w → v ≡ w
 comparison_is_one expected out v w (Equal is same) first second also = is ∙ sym (compared_equal expected out w same second)
 comparison_is_one expected out v w (Differing at is differ) first second (Equal too same) = compared_equal expected out v same first ∙ sym too
 comparison_is_one expected out v w (Differing at is differ) first second (Differing place too other) =
@@ -67,7 +68,8 @@ comparison_is_one expected out v w (Differing at is differ) first second (Differ
 no_is_not_yes : (r : Reason) → No r ≡ Yes → ⊥
 no_is_not_yes r h = absurd cc
 
-pub verdict_is_one : (options : Options) (bound : ℤ) (read : Read) (v w : Verdict) → IsChecked options bound read v → IsChecked options bound read w → v ≡ w
+pub verdict_is_one : (options : Options) (bound : ℤ) (read : Read) (v w : Verdict) → IsChecked options bound read v
+    → IsChecked options bound read w → v ≡ w
 verdict_is_one options bound read v w (NotCertificate t held loaded none is) (NotCertificate u arcs also missing too) = is ∙ sym too
 verdict_is_one options bound read v w (NotCertificate t held loaded none is) (IsRefuted u reason after judged too) =
     absurd (none judged.content judged.is_content.certificate judged.is_content.text)

@@ -57,7 +57,8 @@ layers_are_within Pair m layers are k d within =
 
 -- ---- one record
 
-record_of_edges : (t : Terms) (m : Map) (w : Work) (k : ℕ) (r : ChainRef) (one : Record) → IsMap m → LiesInArc m r → chain_at w.chains k ≡ chain_in m r → IsRecordOf t w k one → IsOfEdges (edge_count (chain_in m r)) one
+record_of_edges : (t : Terms) (m : Map) (w : Work) (k : ℕ) (r : ChainRef) (one : Record) → IsMap m → LiesInArc m r
+    → chain_at w.chains k ≡ chain_in m r → IsRecordOf t w k one → IsOfEdges (edge_count (chain_in m r)) one
 record_of_edges t m w k r one is_map lies read is =
     let arc : one.arc ≡ r.arc = is.arc ∙ ap (λ (c : Chain). c.first.arc) read in
     let start : one.«from» ≡ r.«from» = is.«from» ∙ ap (λ (c : Chain). c.first.at) read in
@@ -77,7 +78,9 @@ record_of_edges t m w k r one is_map lies read is =
 
 -- ---- all records
 
-records_are_short : (t : Terms) (m : Map) (w after : Work) (k : ℕ) (refs : List ChainRef) (records : List Record) → IsMap m → All (LiesInArc m) refs → AllByRecursion IsRun (map (chain_in m) refs) → AreAsRead m w.chains k refs → AreReplaced t w k (length refs) records after
+records_are_short : (t : Terms) (m : Map) (w after : Work) (k : ℕ) (refs : List ChainRef) (records : List Record) → IsMap m
+    → All (LiesInArc m) refs → AllByRecursion IsRun (map (chain_in m) refs) → AreAsRead m w.chains k refs
+    → AreReplaced t w k (length refs) records after
     → length (further (map record_text records)) ≤ 59 * sum_by edge_count (map (chain_in m) refs)
 records_are_short t m w after k [] records is_map lie runs read run = omega (arith, ap (λ (rs : List Record). length (further (map record_text rs))) run.0)
 records_are_short t m w after k (r ∷ rs) records is_map lie runs read (inl run) =
@@ -104,13 +107,15 @@ held_are_few : (hold : Bool) (m : Map) (held : List ℕ) → AreHeldBeside hold 
 held_are_few false m held beside = omega (arith, ap length beside.1)
 held_are_few true m held beside = rising-length (length m.arcs) held beside.rising (held_are_arcs true m held beside)
 
-outcome_is_short : (t : Terms) (m after : Map) (records : List Record) → IsMap m → IsOutcome m t after records → length (further (map record_text records)) + 59 * length m.arcs ≤ 59 * 2 ^ 20
+outcome_is_short : (t : Terms) (m after : Map) (records : List Record) → IsMap m → IsOutcome m t after records
+    → length (further (map record_text records)) + 59 * length m.arcs ≤ 59 * 2 ^ 20
 outcome_is_short t m after records is outcome =
     let chains = map (chain_in m) outcome.refs in
     let short = records_are_short t m (work_of m outcome.refs) outcome.last 0 outcome.refs records is outcome.chains.lie (runs_of_arcs 0 m.arcs chains outcome.chains.cut) (left_as_read m chains 0 outcome.refs refl) outcome.replaced in
     omega (arith, short, edges_of_arcs 0 m.arcs chains is.arcs outcome.chains.cut, is.few_positions)
 
-pub certified_is_short : (options : Options) (bound : ℤ) (text bytes : List ℕ) → AreWeights options.weights → IsBound bound → IsCertified options bound text bytes → length bytes ≤ 2 ^ 26
+pub certified_is_short : (options : Options) (bound : ℤ) (text bytes : List ℕ) → AreWeights options.weights → IsBound bound
+    → IsCertified options bound text bytes → length bytes ≤ 2 ^ 26
 certified_is_short options bound text bytes weights is_bound is =
     let m = is.topology.map in
     let is_map = read_map_is_map text is.topology is.run.loaded.topology in

@@ -23,7 +23,8 @@ on_grid : (p : Place) → StaysOnGrid ones p → IsOnGrid p
 on_grid p stays = record { across = subst IsGridNumber (one-*ℤ p.x) stays.across; up = subst IsGridNumber (one-*ℤ p.y) stays.up }
 
 -- as many lists, each no longer, are no longer in sum
-sum_is_less : (xs ys : List (List Place)) → length ys ≡ length xs → ((k : ℕ) → k < length xs → length (get_or ys k []) ≤ length (get_or xs k [])) → sum_by length ys ≤ sum_by length xs
+sum_is_less : (xs ys : List (List Place)) → length ys ≡ length xs
+    → ((k : ℕ) → k < length xs → length (get_or ys k []) ≤ length (get_or xs k [])) → sum_by length ys ≤ sum_by length xs
 sum_is_less [] [] same shorter = omega arith
 sum_is_less [] (y ∷ ys) same shorter = absurd (omega (arith, same))
 sum_is_less (x ∷ xs) [] same shorter = absurd (omega (arith, same))
@@ -35,7 +36,8 @@ sum_is_less (x ∷ xs) (y ∷ ys) same shorter =
 fitting_is_less : (m new : Map) → FitsIn m new → sum_by length new.arcs ≤ sum_by length m.arcs
 fitting_is_less m new fits = sum_is_less m.arcs new.arcs fits.count (λ k below. (fits.arcs k below).short)
 
-pub simplified_is_short : (options : Options) (bound : ℤ) (text bytes : List ℕ) → AreWeights options.weights → length text ≤ 2 ^ 26 → IsSimplified options bound text bytes → length bytes ≤ 2 ^ 27
+pub simplified_is_short : (options : Options) (bound : ℤ) (text bytes : List ℕ) → AreWeights options.weights → length text ≤ 2 ^ 26
+    → IsSimplified options bound text bytes → length bytes ≤ 2 ^ 27
 simplified_is_short options bound text bytes weights short is =
     let m = is.topology.map in
     let loaded = is.run.loaded in

@@ -92,7 +92,8 @@ list_fits [] = omega arith
 list_fits (t ∷ ts) = omega (arith, list_is t ts)
 
 -- an arc of one position is written with it twice
-arc_with : (coded : Bool) (p : Place) (qs : List Place) → IsOnGrid p → All IsOnGrid qs → length (list_text (map position_text (p ∷ coded_positions coded p qs))) ≤ 27 + 26 * length qs
+arc_with : (coded : Bool) (p : Place) (qs : List Place) → IsOnGrid p → All IsOnGrid qs
+    → length (list_text (map position_text (p ∷ coded_positions coded p qs))) ≤ 27 + 26 * length qs
 arc_with coded p qs from on =
     let all = All-cons IsShort p (coded_positions coded p qs) (place_is_short p from) (coded_are_short coded p qs from on) in
     omega (arith, further_positions (p ∷ coded_positions coded p qs) all, coded_count coded p qs, list_is (position_text p) (map position_text (coded_positions coded p qs)))
@@ -102,7 +103,8 @@ arc_fits coded [] is on = absurd is
 arc_fits coded (p ∷ []) is on = omega (arith, arc_with coded p (p ∷ []) (All-head IsOnGrid p [] on) on)
 arc_fits coded (p ∷ q ∷ ps) is on = omega (arith, arc_with coded p (q ∷ ps) (All-head IsOnGrid p (q ∷ ps) on) (All-tail IsOnGrid p (q ∷ ps) on))
 
-further_arcs : (coded : Bool) (arcs : List (List Place)) → All IsArc arcs → All (All IsOnGrid) arcs → length (behind_commas (map (arc_text coded) arcs)) ≤ 54 * sum_by length arcs
+further_arcs : (coded : Bool) (arcs : List (List Place)) → All IsArc arcs → All (All IsOnGrid) arcs
+    → length (behind_commas (map (arc_text coded) arcs)) ≤ 54 * sum_by length arcs
 further_arcs coded [] are on = omega arith
 further_arcs coded (ps ∷ arcs) are on =
     omega (
@@ -115,12 +117,14 @@ further_arcs coded (ps ∷ arcs) are on =
       length-append (codes ",") (arc_text coded ps),
     )
 
-pub arcs_text_fits : (m : Map) → All IsArc m.arcs → All (All IsOnGrid) m.arcs → sum_by length m.arcs ≤ 2 ^ 20 → length (arcs_text_of m) ≤ 2 ^ 26
+pub arcs_text_fits : (m : Map) → All IsArc m.arcs → All (All IsOnGrid) m.arcs → sum_by length m.arcs ≤ 2 ^ 20
+    → length (arcs_text_of m) ≤ 2 ^ 26
 arcs_text_fits m are on few = omega (arith, few, list_fits (map (arc_text m.coded) m.arcs), further_arcs m.coded m.arcs are on)
 
 -- ---- a text with other arcs
 
-pub spliced_fits : (text part : List ℕ) (start end : ℕ) → start ≤ end → end ≤ length text → length (spliced text start end part) ≤ length text + length part
+pub spliced_fits : (text part : List ℕ) (start end : ℕ) → start ≤ end → end ≤ length text
+    → length (spliced text start end part) ≤ length text + length part
 spliced_fits text part start end forwards within =
     omega (
       arith,

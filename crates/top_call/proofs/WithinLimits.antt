@@ -64,6 +64,11 @@ version_fits true None m held beside =
 version_fits false None m held beside =
     record { least = omega arith; greatest = omega arith; no_held = λ one. beside.1; even_across = λ small. refl; even_up = λ small. refl }
 
+-- the same of what a run has in memory
+pub version_allowed : (options : Options) (m : Map) (held beside : List ℕ) (w : Scales) (version : ℕ) → version ≡ version_of options → w ≡ scales_of options.weights → beside ≡ held → AreHeldBeside options.hold m held
+    → IsVersion version (unsigned_abs w.x) (unsigned_abs w.y) beside
+version_allowed options m held beside w version is_version is_w is_held are = rw (is_version, is_w, is_held) (version_fits options.hold options.weights m held are)
+
 -- a number from 1 to 65536
 record IsScale (n : ℕ) : Type 0 where
   low : 1 ≤ n

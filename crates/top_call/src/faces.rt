@@ -29,14 +29,10 @@ fn write_through<O: Sink>(lines: &mut Vec<u8>, line: &[u8], out: &mut O) -> Resu
         (lines.old.items ++ line.now)) }
     ensures cause { HasCause (O.faults out.old) (O.faults out.new) result }
 {
-    if let Err(failed) = write_all(out, lines) {
-        return Err(failed);
-    }
+    write_all(out, lines)?;
     lines.clear();
-    match write_all(out, line) {
-        Ok(()) => Ok(()),
-        Err(failed) => Err(failed),
-    }
+    write_all(out, line)?;
+    Ok(())
 }
 
 // Adds a line behind the gathered ones. Where there is no room for it, they are written, and then
@@ -58,10 +54,7 @@ fn add_line<O: Sink>(lines: &mut Vec<u8>, line: &[u8], out: &mut O) -> Result<()
         lines.extend_from_slice(line).unwrap();
         return Ok(());
     }
-    match write_through(lines, line, out) {
-        Ok(()) => Ok(()),
-        Err(failed) => Err(failed),
-    }
+    write_through(lines, line, out)
 }
 
 // Writes the line of each feature point.
@@ -83,14 +76,10 @@ fn write_lines<O: Sink>(
 {
     for point in 0..map.point_count() {
         scratch.write_line(map, point);
-        if let Err(failed) = add_line(lines, scratch.line(), out) {
-            return Err(failed);
-        }
+        add_line(lines, scratch.line(), out)?;
     }
-    match write_all(out, lines) {
-        Ok(()) => Ok(()),
-        Err(failed) => Err(failed),
-    }
+    write_all(out, lines)?;
+    Ok(())
 }
 
 // Writes the lines of a map, with memory that is taken first.

@@ -150,16 +150,11 @@ pub fn load(alloc: Global, options: &Options, text: &[u8]) -> Result<Loaded, Sta
     ensures refused { IfErr result (IsRefused options.now text.now) }
     ensures status { IfErr result IsMapStatus }
 {
-    let topology = match topology_in(alloc, text) {
-        Ok(topology) => topology,
-        Err(status) => return Err(status),
-    };
+    let topology = topology_in(alloc, text)?;
     if let Some(off) = first_off(weights_of(options), &topology.map) {
         return Err(Status::OffWeights(off.0, off.1));
     }
     let Topology { map, arcs_at } = topology;
-    match arranged(alloc, options.hold, map) {
-        Ok(partly) => Ok(Loaded { partly, arcs_at }),
-        Err(status) => Err(status),
-    }
+    let partly = arranged(alloc, options.hold, map)?;
+    Ok(Loaded { partly, arcs_at })
 }

@@ -43,9 +43,7 @@ pub fn write_parts<S: Sink>(sink: &mut S, parts: &[Part]) -> Result<(), Failed>
     ensures cause { HasCause (S.faults sink.old) (S.faults sink.new) result }
 {
     for part in parts {
-        if let Err(failed) = write_part(sink, part) {
-            return Err(failed);
-        }
+        write_part(sink, part)?;
     }
     Ok(())
 }

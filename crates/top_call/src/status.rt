@@ -2,7 +2,7 @@
 ghost use Rattle.std.specs.Prelude.{◌≡◌};
 ghost use Rattle.top_call.specs.Codes.{code_of};
 
-use arc_map::EdgeRef;
+use arc_map::{EdgeRef, NoMemory};
 use cert_checker::Reason;
 use topo_reader::{OffKind, ShapeKind, What};
 
@@ -68,6 +68,16 @@ pub enum Status {
     /// The weights take a position off the grid: the least arc of which they do, and its least such
     /// position, equal positions in a row taken once.
     OffWeights(u32, u32),
+}
+
+impl From<NoMemory> for Status {
+    ghost use Rattle.top_call.specs.declared.status.Status.TheVariants.{NoMemory};
+
+    ghost from_gives = { λ _ s. s ≡ NoMemory };
+
+    fn from(_: NoMemory) -> Self {
+        Status::NoMemory
+    }
 }
 
 impl Status {

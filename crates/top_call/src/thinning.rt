@@ -60,18 +60,9 @@ pub fn simplified(
     ensures refused { IfErr result (IsRefused options.now text.now) }
     ensures status { IfErr result IsMapStatus }
 {
-    let Loaded { partly, arcs_at } = match load(alloc, options, text) {
-        Ok(loaded) => loaded,
-        Err(status) => return Err(status),
-    };
-    let outcome = match run_chains(alloc, partly, bound, weights_of(options)) {
-        Ok(outcome) => outcome,
-        Err(_) => return Err(Status::NoMemory),
-    };
-    match put_back(alloc, text, arcs_at, outcome.map.map()) {
-        Ok(bytes) => Ok(bytes),
-        Err(_) => Err(Status::NoMemory),
-    }
+    let Loaded { partly, arcs_at } = load(alloc, options, text)?;
+    let outcome = run_chains(alloc, partly, bound, weights_of(options))?;
+    Ok(put_back(alloc, text, arcs_at, outcome.map.map())?)
 }
 
 /// The certificate of thinning the arcs of a topology within the bound. The errors are those of
@@ -87,19 +78,10 @@ pub fn certified(
     ensures refused { IfErr result (IsRefused options.now text.now) }
     ensures status { IfErr result IsMapStatus }
 {
-    let Loaded { partly, .. } = match load(alloc, options, text) {
-        Ok(loaded) => loaded,
-        Err(status) => return Err(status),
-    };
+    let Loaded { partly, .. } = load(alloc, options, text)?;
     let weights = weights_of(options);
-    let outcome = match run_chains(alloc, partly, bound, weights) {
-        Ok(outcome) => outcome,
-        Err(_) => return Err(Status::NoMemory),
-    };
+    let outcome = run_chains(alloc, partly, bound, weights)?;
     let version = version_of(options);
     let Outcome { map, records } = outcome;
-    match write(alloc, version, bound, weights, map.held(), &records) {
-        Ok(bytes) => Ok(bytes),
-        Err(_) => Err(Status::NoMemory),
-    }
+    Ok(write(alloc, version, bound, weights, map.held(), &records)?)
 }
