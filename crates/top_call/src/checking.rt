@@ -78,10 +78,7 @@ pub fn verdict_on(
     ensures refused { IfErr result (IsRefused options.now (texts_read texts.now).file) }
     ensures status { IfErr result IsMapStatus }
 {
-    let loaded = match load(alloc, options, &texts.file) {
-        Ok(loaded) => loaded,
-        Err(status) => return Err(status),
-    };
+    let loaded = load(alloc, options, &texts.file)?;
     match read(alloc, &texts.cert) {
         Ok(certificate) => judged(alloc, options, bound, loaded, &certificate, texts),
         Err(CertError::NotCertificate) => Ok(Verdict::No(Reason::Form)),

@@ -22,10 +22,7 @@ pub fn coverage(alloc: Global, rows: u32, cols: u32, seed: u32) -> Result<Vec<u8
     ensures short { IfOk result (λ text. length text.items ≤ 2 ^ 26) }
     ensures status { IfErr result (λ s. s ≡ Status.NoMemory) }
 {
-    match make(alloc, rows, cols, seed) {
-        Ok(text) => Ok(text),
-        Err(_) => Err(Status::NoMemory),
-    }
+    Ok(make(alloc, rows, cols, seed)?)
 }
 
 // How many positions the arcs of a map have in sum.
@@ -81,20 +78,11 @@ pub fn demo(alloc: Global, rows: u32, cols: u32, seed: u32, bound: Bound) -> Res
     ensures written { IfOk result (λ bytes. IsDemoed rows cols seed bound bytes.items) }
     ensures status { IfErr result (λ s. s ≡ Status.NoMemory) }
 {
-    let text = match coverage(alloc, rows, cols, seed) {
-        Ok(text) => text,
-        Err(status) => return Err(status),
-    };
+    let text = coverage(alloc, rows, cols, seed)?;
     let options = no_options();
-    let partly = match load(alloc, &options, &text) {
-        Ok(loaded) => loaded.partly,
-        Err(status) => return Err(status),
-    };
-    let before = position_count(partly.map());
-    let outcome = match run_chains(alloc, partly, bound, weights_of(&options)) {
-        Ok(outcome) => outcome,
-        Err(_) => return Err(Status::NoMemory),
-    };
+    let loaded = load(alloc, &options, &text)?;
+    let before = position_count(loaded.partly.map());
+    let outcome = run_chains(alloc, loaded.partly, bound, weights_of(&options))?;
     match lines_of(alloc, outcome.map.map(), outcome.records.count(), before) {
         Ok(bytes) => Ok(bytes),
         Err(_) => Err(Status::NoMemory),
