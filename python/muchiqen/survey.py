@@ -40,6 +40,34 @@ def claimed_twice(topology: Topology) -> list[tuple[int, int]]:
     return sorted(pairs)
 
 
+def overlapping(topology: Topology) -> list[tuple[int, int]]:
+    """Give the pairs of polygons (by number) that overlap, as their borders tell.
+
+    Two overlap where they lie on the same side of an arc, or where an arc of one that is none of
+    the other lies inside the other. Borders that cross are told as held arcs, not here.
+    """
+    return sorted({*claimed_twice(topology), *_inside_others(topology)})
+
+
+def _inside_others(topology: Topology) -> set[tuple[int, int]]:
+    named: dict[int, set[int]] = defaultdict(set)
+    rows = arcs_of_polygons(topology)
+    for number, arcs in enumerate(rows):
+        for arc in arcs:
+            named[arc].add(number)
+    plain = topology.without_repeats()
+    arcs_named = [arc for arc in sorted(named) if plain.starts[arc + 1] - plain.starts[arc] > 1]
+    first = plain.starts[arcs_named]
+    middles = (plain.places[first] + plain.places[first + 1]) / 2
+    found = holders(plain.places.astype(np.float64), plain.starts, rows, middles)
+    return {
+        (min(own, other), max(own, other))
+        for arc, inside in zip(arcs_named, found, strict=True)
+        for other in set(inside) - named[arc]
+        for own in named[arc]
+    }
+
+
 def outer_arcs(topology: Topology) -> list[int]:
     """Give the arcs that the rings name just once: the outer borders of the coverage."""
     uses = np.zeros(topology.arc_count, dtype=np.int64)

@@ -523,12 +523,12 @@ class _Origins:
 
 
 def _fault_notes(work: Work, tolerance: float) -> list[str]:
-    """Say where polygons overlap on an arc's side, and where narrow gaps are."""
+    """Say which polygons overlap, as their borders tell, and where narrow gaps are."""
     labels = _polygon_labels(work)
-    notes = [
-        f"rows {labels[a]} and {labels[b]} lie on one side of a border: they overlap"
-        for a, b in survey.claimed_twice(work.topology)
-    ]
+    pairs = survey.overlapping(work.topology)
+    notes = [f"rows {labels[a]} and {labels[b]} overlap" for a, b in pairs[:20]]
+    if len(pairs) > 20:
+        notes.append(f"{len(pairs) - 20} more pairs of rows overlap")
     gaps = survey.narrow_gaps(work.topology, tolerance)
     for gap in gaps[:10]:
         x, y = gap.representative_point().coords[0]

@@ -148,7 +148,15 @@ def test_overlapping_rows_are_held_and_told(command: Command) -> None:
     thinned = muchiqen.simplify(frame, 1, program=command)
     assert [(h.kind, h.by_snapping) for h in thinned.report.held] == [("crosses", False)] * 2
     twice = gpd.GeoDataFrame(geometry=[square, square], index=["a", "b"], crs="EPSG:3035")
-    assert "rows a and b lie on one side" in notes(muchiqen.simplify(twice, 1, program=command))
+    assert "rows a and b overlap" in notes(muchiqen.simplify(twice, 1, program=command))
+    inner = Polygon([(2, 2), (4, 2), (4, 4), (2, 4)])
+    nested = gpd.GeoDataFrame(geometry=[square, inner], index=["a", "b"], crs="EPSG:3035")
+    thinned = muchiqen.simplify(nested, 1, program=command)
+    assert not thinned.report.held
+    assert notes(thinned) == "rows a and b overlap"
+    ring = square.difference(inner)
+    beside = gpd.GeoDataFrame(geometry=[ring, inner], crs="EPSG:3035")
+    assert not notes(muchiqen.simplify(beside, 1, program=command))
 
 
 def test_gaps_are_told(command: Command) -> None:
