@@ -9,7 +9,7 @@ from typing import Any
 
 import geopandas as gpd
 
-from .errors import MuchiqenError, NotRead
+from .errors import MuchiqenError, NotATopology, NotRead
 from .files import is_topology, read_frame, write_bytes, write_frame
 from .large import ThinnedLarge, simplify_large
 from .thin import Source, Thinned, simplify
@@ -64,7 +64,13 @@ def _simplify(options: argparse.Namespace) -> None:
     source = _source(options)
     towns = read_frame(options.towns) if options.towns else None
     bar.step("read")
-    thinned = _thin(options, source, towns, bar)
+    try:
+        thinned = _thin(options, source, towns, bar)
+    except NotATopology as error:
+        if error.kind != "not whole":
+            raise
+        # A TopoJSON text that is not quantized is read by GDAL, and snapped as any other map.
+        thinned = _thin(options, read_frame(options.input, options.layer), towns, bar)
     bar.step("thinned")
     _write(thinned, options)
     bar.close()

@@ -75,15 +75,16 @@ def checked_tolerance(tolerance: object) -> float:
 def choose(coordinates: Coordinates, tolerance: float, most_weight: int = 1) -> Grid:
     """Give a grid whose step is a power of ten.
 
-    The step is the greatest power of ten of which at least a hundred go into the tolerance, or a
-    coarser one where the map, times ``most_weight``, would not fit on the grid otherwise.
+    The step is the greatest power of ten of which at least a hundred go into the tolerance and a
+    thousand into the map, or a coarser one where the map, times ``most_weight``, would not fit on
+    the grid otherwise.
     """
     if not len(coordinates):
         return Grid()
     low, high = coordinates.min(axis=0), coordinates.max(axis=0)
     span = float((high - low).max()) or 1.0
     room = EDGE / most_weight * 0.99
-    fine = _power_below(tolerance / 100) if tolerance > 0 else 0.0
+    fine = _power_below(min(tolerance / 100, span / 1000)) if tolerance > 0 else 0.0
     step = max(fine, _power_above(span / 2 / room))
     if float(np.abs(coordinates).max()) / step <= room:
         return Grid((step, step))

@@ -46,6 +46,21 @@ def test_a_topology_stays_one(command: Command, options: list[str], tmp_path: Pa
     assert goal.read_bytes() == command.simplify(LAKELAND.read_bytes(), 150)
 
 
+def test_a_topology_that_is_not_quantized_is_read_by_gdal(
+    options: list[str], tmp_path: Path
+) -> None:
+    source, goal = tmp_path / "map.json", tmp_path / "thin.geojson"
+    source.write_text(
+        '{"type":"Topology","objects":{"a":{"type":"GeometryCollection","geometries":['
+        '{"type":"Polygon","properties":{"n":1},"arcs":[[0]]}]}},'
+        '"arcs":[[[0.5,0],[4.5,0.1],[8.5,0],[4.5,5.5],[0.5,0]]]}'
+    )
+    words = ["simplify", str(source), str(goal), "--tolerance", "0.2", "--weights", "1", "1"]
+    assert main([*words, *options]) == 0
+    thin = files.read_frame(goal).geometry[0]
+    assert thin.equals(Polygon([(0.5, 0), (8.5, 0), (4.5, 5.5)]))
+
+
 def test_everything_at_once(options: list[str], tmp_path: Path) -> None:
     pytest.importorskip("matplotlib")
     names = {kind: tmp_path / kind for kind in ("out.gpkg", "c.json", "p.png", "v.html")}

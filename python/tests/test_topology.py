@@ -21,6 +21,8 @@ def test_a_grid_is_chosen_from_extent_and_tolerance() -> None:
     corners = np.array([[0.0, 0.0], [20.0, 50.0]])
     assert grid.choose(corners, 1.0) == grid.Grid((0.01, 0.01))
     assert grid.choose(corners, 0.99) == grid.Grid((0.001, 0.001))
+    # However wide the tolerance, the map has a thousand steps.
+    assert grid.choose(corners, 1e9) == grid.Grid((0.01, 0.01))
     # No tolerance: the finest power of ten on which 50 fits: 50 / 1e-7 = 5e8, below 2^29.
     assert grid.choose(corners, 0).scale == (1e-7, 1e-7)
     # Weights up to 10 leave a tenth of that.
