@@ -1,7 +1,7 @@
 """Muchiqen for people with maps: thins the borders of a coverage with the proved command.
 
 The command is exact and proved. This package proves nothing of its own: what it promises it
-checks, by the command's own ``check`` and by shapely.
+checks, by the command's own ``check``, by exact counts of its own and by shapely.
 """
 
 from typing import Any
