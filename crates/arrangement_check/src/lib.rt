@@ -10,6 +10,3 @@ mod partly;
 pub use arranged::Arranged;
 pub use meeting::{CheckError, check};
 pub use partly::{Partly, hold};
-
-#[cfg(test)]
-mod tests;

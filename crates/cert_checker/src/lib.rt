@@ -17,6 +17,3 @@ pub use plain::allowed;
 pub use prefixes::compare;
 pub use state::{JudgeState, judge};
 pub use verdicts::{Reason, Verdict};
-
-#[cfg(test)]
-mod tests;

@@ -11,6 +11,3 @@ mod weigh;
 pub use laws::{layers_certify_path, outcome_is_one, outcome_keeps_faces, outcome_thins_arcs};
 pub use run::{Outcome, RunState, run_chains};
 pub use terms::Terms;
-
-#[cfg(test)]
-mod tests;

@@ -3,5 +3,4 @@ pub mod Listed
 pub mod AsRead
 pub mod Indexing
 pub mod Stepping
-pub mod Worked
 pub mod InBox

@@ -8,6 +8,3 @@ mod owners;
 
 pub use indexed::IndexedMap;
 pub use owners::is_other;
-
-#[cfg(test)]
-mod tests;

@@ -5,7 +5,6 @@ pub mod Twins
 pub mod AllowedPairs
 pub mod Filling
 pub mod Marking
-pub mod ArrangedChains
 pub mod Coordinates
 pub mod Corridors
 pub mod Raised

@@ -9,6 +9,3 @@ mod ruler;
 
 pub use pairs::fill;
 pub use ruler::Ruler;
-
-#[cfg(test)]
-mod tests;

@@ -13,4 +13,3 @@ pub mod RunsOf
 pub mod ClearOf
 pub mod ByEdges
 pub mod Exact
-pub mod Worked

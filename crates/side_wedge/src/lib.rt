@@ -12,6 +12,3 @@ mod wedge;
 pub use beside::Beside;
 pub use laws::consistency_by_edges;
 pub use wedge::Wedge;
-
-#[cfg(test)]
-mod tests;

@@ -16,6 +16,3 @@ pub use edges::{EdgeIndex, PairWalk, TownWalk};
 pub use index::{Index, Item, Owner};
 pub use slabs::{EdgeSlabs, EdgeWalk};
 pub use walk::Walk;
-
-#[cfg(test)]
-mod tests;

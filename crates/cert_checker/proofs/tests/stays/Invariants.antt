@@ -1,7 +1,0 @@
-use Rattle.std.specs.Prelude.{All}
-use Rattle.std.specs.List.{AllWithin}
-use Rattle.grid_exact.specs.Weights.{StaysOnGrid}
-use Rattle.cert_checker.proofs.tests.stays.Given as goal
-
-abbrev pub invariant-loop-k : goal.invariant-loop-k
-invariant-loop-k l = AllWithin (All (StaysOnGrid l.weights)) l.map.arcs 0 l.k

@@ -1,6 +1,0 @@
--- The coordinates so far.
-use Rattle.shortcut_graph.specs.Weighed.{IsColumn}
-use Rattle.shortcut_graph.proofs.tests.up.Given as goal
-
-abbrev pub invariant-loop-place : goal.invariant-loop-place
-invariant-loop-place l = IsColumn (λ p. p.y) l.places l.ys.items l.place-index

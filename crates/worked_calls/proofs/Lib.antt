@@ -1,0 +1,3 @@
+mod ArrangedChains
+mod OneBump
+mod RisingArcs

@@ -1,0 +1,107 @@
+//! Worked wedges, and what stands beside a bump.
+ghost use Rattle.std.specs.Prelude.{◌<ℤ◌, [], IfOk};
+ghost use Rattle.grid_exact.specs.Geometry.{IsOnSegment};
+ghost use Rattle.arc_map.specs.Arcs.{IsMapArrangedBeside};
+ghost use Rattle.side_wedge.specs.Lines.{IsAside};
+
+use crate::parts::point;
+use arc_map::{ArcMap, NoMemory};
+use chain_side::{Side, comes_before};
+use grid_exact::{Frame, Point, on_segment};
+use map_index::IndexedMap;
+use monotone_split::split;
+use side_wedge::{Beside, Wedge};
+use std::alloc::{AllocError, Global};
+use std::process::Abort;
+use std::test::Fail;
+
+// Whether a wedge lets v after it has taken p on this side.
+fn lets_after(
+    rt: &impl Abort,
+    frame: Frame,
+    rising: bool,
+    from: Point,
+    p: Point,
+    side: Side,
+    v: Point,
+) -> bool
+    requires { IsAside side }
+{
+    assert!(rt; comes_before(frame, rising, from, p));
+    assert!(rt; comes_before(frame, rising, from, v));
+    let mut wedge = Wedge::start(frame, from, rising);
+    wedge.take_point(p, side);
+    wedge.lets(v)
+}
+
+#[test]
+fn wedges_let_points(rt: HostRuntime) -> Result<(), Fail> {
+    let (low, p) = (point(0, 0)?, point(2, 1)?);
+    let plain = Frame::Plain;
+    assert!(rt; lets_after(&rt, plain, true, low, p, Side::Above, point(4, 0)?));
+    assert!(rt; !lets_after(&rt, plain, true, low, p, Side::Above, point(4, 2)?));
+    assert!(rt; !lets_after(&rt, plain, true, low, p, Side::Above, point(4, 3)?));
+    assert!(rt; !lets_after(&rt, plain, true, low, p, Side::Below, point(4, 0)?));
+    let right = point(4, 0)?;
+    assert!(rt; lets_after(&rt, plain, false, right, p, Side::Above, point(0, 1)?));
+    assert!(rt; !lets_after(&rt, plain, false, right, p, Side::Above, point(0, 2)?));
+    let (turned, q) = (Frame::Turned, point(1, 2)?);
+    assert!(rt; lets_after(&rt, turned, true, low, q, Side::Above, point(1, 4)?));
+    assert!(rt; !lets_after(&rt, turned, true, low, q, Side::Above, point(3, 4)?));
+    Ok(())
+}
+
+// A map of one arc over three points that rises to the right, and a feature point on neither of its edges.
+fn bump(alloc: Global, a: Point, b: Point, c: Point, town: Point) -> Result<ArcMap, AllocError>
+    requires rising { (a.x <ℤ b.x) × (b.x <ℤ c.x) }
+    requires off { ¬ (IsOnSegment a b town) × ¬ (IsOnSegment b c town) }
+    ensures { IfOk result (IsMapArrangedBeside []) }
+{
+    let mut arcs = Vec::with_capacity(alloc, 1)?;
+    arcs.push_reserved([a, b, c].to_vec(alloc)?);
+    let points = [town].to_vec(alloc)?;
+    Ok(ArcMap::new(arcs, points, Vec::new(alloc), false))
+}
+
+// Which vertices of the first chain of an arranged map are past the first, and make a consistent pair with it.
+fn first_row(alloc: Global, map: ArcMap) -> Result<Vec<bool>, NoMemory>
+    requires { IsMapArrangedBeside [] map }
+{
+    let chains = split(alloc, &map)?;
+    let map = IndexedMap::build(alloc, map, chains)?;
+    let mut beside = Beside::with_room(alloc, map.item_count())?;
+    if map.work().chain_count() == 0 {
+        return Ok(Vec::new(alloc));
+    }
+    let mut row = vec![in alloc; true; map.chain(0).len()]?;
+    beside.load(&map, 0);
+    beside.consistent_from(&map, 0, 0, &mut row);
+    Ok(row)
+}
+
+// Whether the bump over (0, 0), (2, 2) and (4, 0) may become one edge beside this feature point.
+fn may_be_flat(rt: &impl Abort, alloc: Global, town: Point) -> Result<bool, Fail> {
+    let (a, b, c) = (point(0, 0)?, point(2, 2)?, point(4, 0)?);
+    assert!(rt; a.x() < b.x());
+    assert!(rt; b.x() < c.x());
+    assert!(rt; !on_segment(a, b, town));
+    assert!(rt; !on_segment(b, c, town));
+    let map = bump(alloc, a, b, c, town)?;
+    let Ok(row) = first_row(alloc, map) else {
+        return Err(Fail::from("memory"));
+    };
+    assert!(rt; row.len() == 3);
+    assert!(rt; !row[0]);
+    assert!(rt; row[1]);
+    Ok(row[2])
+}
+
+#[test]
+fn a_town_under_a_bump_holds_it(rt: HostRuntime) -> Result<(), Fail> {
+    let alloc = rt.alloc();
+    assert!(rt; !may_be_flat(&rt, alloc, point(2, 1)?)?);
+    assert!(rt; !may_be_flat(&rt, alloc, point(1, 0)?)?);
+    assert!(rt; may_be_flat(&rt, alloc, point(2, 3)?)?);
+    assert!(rt; may_be_flat(&rt, alloc, point(2, -1)?)?);
+    Ok(())
+}
