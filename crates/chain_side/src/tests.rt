@@ -1,8 +1,7 @@
 //! Worked sides.
 use crate::decide::side;
-use crate::search::precedes;
 use crate::sides::Side;
-use grid_exact::{Frame, Point};
+use grid_exact::{Frame, Point, precedes};
 use std::process::Abort;
 
 fn at(rt: &impl Abort, (x, y): (i64, i64)) -> Point {

@@ -15,8 +15,8 @@ use std::alloc::{AllocError, Global};
 use std::process::Abort;
 use std::test::Fail;
 
-// Whether a wedge lets v after it has taken p on this side.
-fn lets_after(
+// Whether a wedge admits v after it has taken p on this side.
+fn admits_after(
     rt: &impl Abort,
     frame: Frame,
     rising: bool,
@@ -31,23 +31,23 @@ fn lets_after(
     assert!(rt; comes_before(frame, rising, from, v));
     let mut wedge = Wedge::start(frame, from, rising);
     wedge.take_point(p, side);
-    wedge.lets(v)
+    wedge.admits(v)
 }
 
 #[test]
-fn wedges_let_points(rt: HostRuntime) -> Result<(), Fail> {
+fn wedges_admit_points(rt: HostRuntime) -> Result<(), Fail> {
     let (low, p) = (point(0, 0)?, point(2, 1)?);
     let plain = Frame::Plain;
-    assert!(rt; lets_after(&rt, plain, true, low, p, Side::Above, point(4, 0)?));
-    assert!(rt; !lets_after(&rt, plain, true, low, p, Side::Above, point(4, 2)?));
-    assert!(rt; !lets_after(&rt, plain, true, low, p, Side::Above, point(4, 3)?));
-    assert!(rt; !lets_after(&rt, plain, true, low, p, Side::Below, point(4, 0)?));
+    assert!(rt; admits_after(&rt, plain, true, low, p, Side::Above, point(4, 0)?));
+    assert!(rt; !admits_after(&rt, plain, true, low, p, Side::Above, point(4, 2)?));
+    assert!(rt; !admits_after(&rt, plain, true, low, p, Side::Above, point(4, 3)?));
+    assert!(rt; !admits_after(&rt, plain, true, low, p, Side::Below, point(4, 0)?));
     let right = point(4, 0)?;
-    assert!(rt; lets_after(&rt, plain, false, right, p, Side::Above, point(0, 1)?));
-    assert!(rt; !lets_after(&rt, plain, false, right, p, Side::Above, point(0, 2)?));
+    assert!(rt; admits_after(&rt, plain, false, right, p, Side::Above, point(0, 1)?));
+    assert!(rt; !admits_after(&rt, plain, false, right, p, Side::Above, point(0, 2)?));
     let (turned, q) = (Frame::Turned, point(1, 2)?);
-    assert!(rt; lets_after(&rt, turned, true, low, q, Side::Above, point(1, 4)?));
-    assert!(rt; !lets_after(&rt, turned, true, low, q, Side::Above, point(3, 4)?));
+    assert!(rt; admits_after(&rt, turned, true, low, q, Side::Above, point(1, 4)?));
+    assert!(rt; !admits_after(&rt, turned, true, low, q, Side::Above, point(3, 4)?));
     Ok(())
 }
 
