@@ -1,0 +1,9 @@
+pub mod ArcsLeft
+pub mod RunPlaces
+pub mod OneLevel
+pub mod Entries
+pub mod Listing
+pub mod Rising
+pub mod Stepping
+pub mod AtEnd
+pub mod Coming
