@@ -1,5 +1,5 @@
 -- The ranks once the last level is reached, and what each level has.
-use Rattle.std.proofs.Common.{◌≡◌, ◌∙◌, ◌↔◌, ℕ, ◌+◌, ◌-◌, ◌<◌, ◌≤◌, Bool, true, false, nat_le, ℤ, List, [], map, filter, length, get_or, slice_index, refl, sym, ap, subst, arith}
+use Rattle.std.proofs.Common.{◌≡◌, ◌∙◌, ◌↔◌, ℕ, ◌-◌, ◌<◌, ◌≤◌, true, nat_le, ℤ, List, [], map, length, get_or, slice_index, sym, ap, arith}
 use Rattle.std.specs.Prelude.{Contains}
 use Rattle.std.specs.List.{range_with_len}
 use Rattle.std.specs.List.Sorted.{IsStrictlyIncreasing}
@@ -13,7 +13,7 @@ use Rattle.arc_map.specs.Map.{Map}
 use Rattle.arc_map.specs.Arranged.{arc_at, nowhere, position_at}
 use Rattle.sweep_index.proofs.Holding.{filter_holds}
 use Rattle.chain_replace.specs.Thinned.{place_at}
-use Rattle.pyramid.specs.Levels.{Level, places_of_rank, rank_at, TellsLevel, AreRanks}
+use Rattle.pyramid.specs.Levels.{Level, places_of_rank, TellsLevel, AreRanks}
 use Rattle.pyramid.specs.UnderWay.{ArePlaces, IsReached, IsUpTo}
 use Rattle.pyramid.proofs.Rising.{at-place, contains-at, range-at, range-rises, in-range, rising_is_one}
 use Rattle.pyramid.proofs.Stepping.{place-within}

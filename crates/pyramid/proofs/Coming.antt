@@ -1,12 +1,11 @@
 -- How a level in memory comes to the next one.
-use Rattle.std.proofs.Common.{◌≡◌, ◌∙◌, ◌==◌, ℕ, zero, suc, ◌+◌, ◌<◌, ◌≤◌, Bool, true, false, cond, ℤ, pos, List, [], ◌∷◌, ◌++◌, All, map, filter, drop, length, get_or, slice_index, refl, sym, ap, subst, arith}
+use Rattle.std.proofs.Common.{◌≡◌, ◌∙◌, ◌==◌, ℕ, zero, suc, ◌+◌, ◌<◌, Bool, true, false, cond, ℤ, pos, List, [], ◌∷◌, All, map, filter, drop, length, get_or, slice_index, refl, sym, ap, subst, arith}
 use Rattle.std.specs.Prelude.{Contains}
 use Rattle.std.specs.List.{flat_map, range_with_len}
 use Rattle.std.specs.Global.{Vec}
 use Rattle.std.proofs.lemmas.List.{length-map, get_or-map}
 use Rattle.std.proofs.lemmas.List.Elements.{All-get_or, All-from_get_or, Contains-get_or, Contains-append_left, Contains-append_right}
 use Rattle.grid_exact.specs.Geometry.{Place}
-use Rattle.grid_exact.specs.Walks.{EachEdge}
 use Rattle.grid_exact.specs.Weights.{Scales}
 use Rattle.arc_map.specs.Map.{Map, IsMap, IsArc}
 use Rattle.arc_map.specs.Arranged.{IsArranged, arc_at}
@@ -17,7 +16,7 @@ use Rattle.chain_replace.specs.Laws.{KeepsFaces}
 use Rattle.pyramid.specs.Levels.{Level as LevelOf, kept_of, later_places, level_terms, ones}
 use Rattle.pyramid.specs.LevelMemory.{IsComeTo, level_in}
 use Rattle.pyramid.specs.Places.{list_of, lists_of, AreRaised, IsWithin}
-use Rattle.pyramid.specs.UnderWay.{ArePlaces, IsLevelOf, IsUpTo}
+use Rattle.pyramid.specs.UnderWay.{IsUpTo}
 use Rattle.pyramid.specs.declared.level.Level.{Level}
 use Rattle.pyramid.proofs.ArcsLeft.{same_test}
 use Rattle.pyramid.proofs.Rising.{at-place}

@@ -1,11 +1,11 @@
 -- Two levels of one number are one.
-use Rattle.std.proofs.Common.{◌≡◌, ◌∙◌, ℕ, zero, suc, ◌<◌, List, get_or, length, map, pos, slice_index, sym, ap, subst}
+use Rattle.std.proofs.Common.{◌∙◌, ℕ, zero, suc, ◌<◌, List, get_or, length, map, pos, slice_index, sym, ap, subst}
 use Rattle.arc_map.specs.Map.{Map}
 use Rattle.arc_map.specs.Records.{Record}
 use Rattle.chain_replace.specs.Run.{IsOutcome}
 use Rattle.chain_replace.proofs.SameOutcome.{outcome_is_one}
 use Rattle.chain_replace.proofs.ThinnedArcs.{outcome_thins_arcs}
-use Rattle.pyramid.specs.Levels.{Level, kept_of, level_terms}
+use Rattle.pyramid.specs.Levels.{kept_of, level_terms}
 use Rattle.pyramid.specs.Laws.{LevelsAreOne}
 
 pub levels_are_one : LevelsAreOne

@@ -1,7 +1,7 @@
 -- The places that the records of a run keep are those that its outcome leaves.
 use Rattle.std.proofs.Common.{◌≡◌, ◌≢◌, ◌∙◌, ◌==◌, ℕ, zero, suc, ◌+◌, ◌-◌, ◌<◌, ◌≤◌, Bool, true, false, cond, filter, List, [], ◌∷◌, ◌++◌, All, map, length, get_or, set, drop, inl, inr, refl, sym, ap, subst, arith}
 use Rattle.std.specs.Prelude.{Contains}
-use Rattle.std.specs.List.{flat_map, range_with_len}
+use Rattle.std.specs.List.{flat_map}
 use Rattle.std.proofs.lemmas.List.{length-map, length-set, get_or-map, get_or-set_same, get_or-set_other, map-append}
 use Rattle.std.proofs.lemmas.List.Elements.{All-nil, All-cons, All-head, All-tail, All-get_or, All-from_get_or}
 use Rattle.std.proofs.lemmas.List.FromFn.{get_or-map-range_with_len, length-map-range_with_len}
@@ -17,7 +17,7 @@ use Rattle.arc_map.specs.Paths.{vertices_at, vertex_at}
 use Rattle.arc_map.specs.Records.{Record}
 use Rattle.arc_map.specs.Work.{Work, work_of, vertex_in, chain_in, LiesInArc, thinned_work}
 use Rattle.arc_map.specs.declared.refs.ChainRef.{ChainRef}
-use Rattle.chain_replace.specs.Run.{Terms, NearBy, IsAllowedIn, last_of, IsRecordOf, IsChainHeld, AreReplaced, IsOutcome}
+use Rattle.chain_replace.specs.Run.{Terms, NearBy, IsAllowedIn, last_of, AreReplaced, IsOutcome}
 use Rattle.chain_replace.specs.Thinned.{IsThinned}
 use Rattle.chain_replace.proofs.BestPaths.{path_leads}
 use Rattle.chain_replace.proofs.NearPaths.{numbers_of}

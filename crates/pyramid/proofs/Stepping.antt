@@ -1,9 +1,9 @@
 -- One level after another, with the ranks by them.
-use Rattle.std.proofs.Common.{◌≡◌, ◌∙◌, ◌↔◌, ◌⊎◌, ℕ, zero, suc, ◌+◌, ◌-◌, ◌<◌, ◌≤◌, ℤ, pos, List, [], ◌∷◌, map, length, get_or, slice_index, inl, inr, refl, sym, ap, subst, arith}
+use Rattle.std.proofs.Common.{◌≡◌, ◌∙◌, ◌↔◌, ℕ, suc, ◌+◌, ◌-◌, ◌<◌, ◌≤◌, ℤ, pos, List, [], map, length, get_or, slice_index, inl, inr, refl, sym, ap, subst, arith}
 use Rattle.std.specs.Prelude.{Contains}
 use Rattle.std.specs.List.{range_with_len}
 use Rattle.std.specs.List.Sorted.{IsStrictlyIncreasing}
-use Rattle.std.proofs.lemmas.Bool.{cases_lt, cases_eq}
+use Rattle.std.proofs.lemmas.Bool.{cases_lt}
 use Rattle.std.proofs.lemmas.List.{length-map, get_or-map}
 use Rattle.std.proofs.lemmas.List.FromFn.{length-range_with_len, fill_by_all}
 use Rattle.grid_exact.specs.Geometry.{Place}
@@ -16,10 +16,10 @@ use Rattle.chain_replace.specs.Run.{NearBy, IsOutcome}
 use Rattle.chain_replace.specs.Laws.{KeepsFaces}
 use Rattle.chain_replace.specs.Thinned.{place_at, IsThinned}
 use Rattle.chain_replace.proofs.ThinnedArcs.{outcome_thins_arcs}
-use Rattle.pyramid.specs.Levels.{Level, IsLevel, IsNextLevel, kept_of, level_terms, rank_at, AreNeighbours, DropsNear}
+use Rattle.pyramid.specs.Levels.{Level, kept_of, level_terms, rank_at, AreNeighbours, DropsNear}
 use Rattle.pyramid.specs.Places.{AreRaised}
-use Rattle.pyramid.specs.UnderWay.{ArePlaces, IsLevelOf, IsRanked, IsReached, IsUpTo}
-use Rattle.pyramid.proofs.Rising.{IsAt, at-place, contains-at, rises, earlier, up-to-last, picked, picked-rise, picked-is, map-picked, range-at, range-rises, in-range}
+use Rattle.pyramid.specs.UnderWay.{ArePlaces, IsLevelOf, IsReached, IsUpTo}
+use Rattle.pyramid.proofs.Rising.{at-place, contains-at, rises, earlier, up-to-last, picked, picked-rise, picked-is, map-picked, range-at, range-rises, in-range}
 use Rattle.pyramid.proofs.RunPlaces.{run_keeps_places}
 
 -- ---- level 0

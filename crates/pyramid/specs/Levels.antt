@@ -1,5 +1,6 @@
 -- Levels of a map, each of which is what a run leaves of the one before it, and the ranks of positions by them.
-use Rattle.std.specs.Prelude.{◌≡◌, ◌↔◌, ◌+◌, ◌-◌, ◌<◌, ◌≤◌, ◌==◌, ℕ, zero, suc, nat_le, ℤ, pos, List, [], ◌∷◌, drop, filter, get_or, length, map, slice_index, Contains}
+use Rattle.std.specs.Prelude.{◌≡◌, ◌↔◌, ◌+◌, ◌-◌, ◌<◌, ◌≤◌, ◌==◌, ℕ, zero, suc, nat_le, ℤ, pos, List, [], ◌∷◌, drop, filter, get_or, length}
+use Rattle.std.specs.Prelude.{map, slice_index, Contains}
 use Rattle.std.specs.List.{flat_map, range_with_len}
 use Rattle.grid_exact.specs.Geometry.{Place}
 use Rattle.grid_exact.specs.Weights.{Scales}

@@ -16,7 +16,8 @@ pub(crate) fn unit_weights() -> Weights
     }
 }
 
-// Looks at each position of the map, which shows that it is on the grid: so the weights 1 leave it there.
+// Looks at each position of the map. Each is on the grid, as its coordinates show, so the weights 1
+// leave it there.
 pub(crate) fn look_over(map: &ArcMap)
     ensures { All (All (StaysOnGrid ones)) map.now.arcs }
 {

@@ -13,8 +13,8 @@ use chain_replace::run_chains;
 use grid_exact::Bound;
 use std::alloc::{AllocError, Global};
 
-// The level that a pyramid has come to: its map, for each arc the places of its positions in the map
-// read, and the ranks so far of the positions of the map read.
+// The level that a pyramid has come to: its map, for each arc the places that its positions have in
+// the map read, and the ranks so far of the positions of the map read.
 #[derive(Drop)]
 struct Level {
     map: Arranged,
@@ -56,9 +56,9 @@ impl Level {
     }
 }
 
-/// The ranks of the positions of the map by the levels of these bounds, in grid units: level 0 is the
-/// map read, and each next level what a run with its bound, the weights 1 and no held arcs leaves of
-/// the level before it. The only error is want of memory.
+/// The ranks of the positions of the map by the levels of these bounds, in grid units, of which there
+/// are at most 16. Level 0 is the map read, and level `k` is what a run with bound number `k`, the
+/// weights 1 and no held arcs leaves of the level before it. The only error is want of memory.
 pub fn rank_all(alloc: Global, arranged: Arranged, bounds: &[Bound]) -> Result<Ranks, NoMemory>
     requires { length bounds.now ≤ 16 }
     ensures { IfOk result (AreRanks arranged bounds.now) }

@@ -1,5 +1,6 @@
 //! The places of the positions that levels keep.
-ghost use Rattle.std.specs.Prelude.{◌≡◌, ◌+◌, ◌<◌, ◌++◌, ℕ, IfOk, OnOk, All, drop, length, map, slice_index, []};
+ghost use Rattle.std.specs.Prelude.{◌≡◌, ◌+◌, ◌<◌, ◌++◌, ℕ, [], IfOk, OnOk, All, drop};
+ghost use Rattle.std.specs.Prelude.{length, map, slice_index};
 ghost use Rattle.std.specs.List.{range_with_len};
 ghost use Rattle.arc_map.specs.Map.{IsMap};
 ghost use Rattle.arc_map.specs.Arranged.{arc_at};

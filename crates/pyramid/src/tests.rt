@@ -10,12 +10,15 @@ use topo_reader::read;
 
 /// The text of the ranks of a short topology by the levels of these bounds, if it has them.
 fn ranked(alloc: Global, text: &str, units: &[u64]) -> Option<Vec<u8>> {
-    if text.len() > 4096 || units.len() > 16 {
+    if text.len() > 4096 {
         return None;
     }
-    let mut bounds = Vec::with_capacity(alloc, units.len()).ok()?;
+    let mut bounds = Vec::new(alloc);
     for e in units {
-        bounds.push_reserved(Bound::new(*e)?);
+        bounds.push(Bound::new(*e)?).ok()?;
+    }
+    if bounds.len() > 16 {
+        return None;
     }
     let Ok(scan) = scan(alloc, text.as_bytes()) else {
         return None;

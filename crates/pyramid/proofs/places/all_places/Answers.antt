@@ -1,5 +1,5 @@
 -- One arc more has its places.
-use Rattle.std.proofs.Common.{◌≡◌, ◌∙◌, ◌<◌, ℕ, List, [], ap, sym, length, arith, rules}
+use Rattle.std.proofs.Common.{◌≡◌, ◌∙◌, [], ap, sym, length, rules}
 use Rattle.std.specs.List.{range_with_len}
 use Rattle.std.proofs.lemmas.Option.{get_or_from_slice_get}
 use Rattle.arc_map.specs.Arranged.{arc_at}

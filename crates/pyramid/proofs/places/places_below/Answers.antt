@@ -1,5 +1,5 @@
 -- The places are those of the range.
-use Rattle.std.proofs.Common.{◌-◌, refl, arith}
+use Rattle.std.proofs.Common.{refl, arith}
 use Rattle.std.proofs.lemmas.Iterator.{items_from_collect, YieldsList-from_range}
 use Rattle.pyramid.proofs.places.places_below.Goals as goal
 

@@ -1,5 +1,5 @@
 -- The positions of one arc more have the rank 0.
-use Rattle.std.proofs.Common.{◌≡◌, ◌∙◌, ◌<◌, ℕ, List, [], ap, sym, get_or, length, replicate, arith, rules}
+use Rattle.std.proofs.Common.{◌≡◌, ◌∙◌, ℕ, List, [], ap, sym, get_or, length, replicate, rules}
 use Rattle.std.proofs.lemmas.List.{length-replicate}
 use Rattle.std.proofs.lemmas.Option.{get_or_from_slice_get}
 use Rattle.arc_map.specs.Arranged.{arc_at}

@@ -1,5 +1,5 @@
 -- The ranks of one arc more are raised.
-use Rattle.std.proofs.Common.{◌∙◌, ◌<◌, ◌≤◌, ℕ, List, get_or, length, refl, sym, subst, arith}
+use Rattle.std.proofs.Common.{◌∙◌, ◌<◌, ℕ, List, get_or, length, refl, sym, subst, arith}
 use Rattle.pyramid.specs.Places.{list_of, AreRaised}
 use Rattle.pyramid.proofs.Listing.{list-at, list-or, within-read, all-raised-more}
 use Rattle.pyramid.proofs.ranks.raise_all.Goals as goal

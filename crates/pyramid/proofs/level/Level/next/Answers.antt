@@ -1,9 +1,8 @@
 -- The places and the ranks are those of the next level.
-use Rattle.std.proofs.Common.{◌≡◌, ◌∙◌, ◌<◌, ℕ, List, [], get_or, map, length, slice_index, sym, ap, subst, arith}
+use Rattle.std.proofs.Common.{◌≡◌, ◌∙◌, ◌<◌, ℕ, List, [], get_or, map, length, slice_index, sym, ap, subst}
 use Rattle.std.specs.Global.{Vec}
 use Rattle.std.specs.Vec.{with_items}
 use Rattle.std.proofs.lemmas.List.{with_items_is}
-use Rattle.arc_map.specs.Map.{Map}
 use Rattle.chain_replace.specs.Run.{IsOutcome}
 use Rattle.chain_replace.specs.Laws.{KeepsFaces}
 use Rattle.pyramid.specs.Levels.{kept_of, level_terms}
