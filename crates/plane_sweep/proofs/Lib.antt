@@ -1,2 +1,4 @@
 pub mod Gaps
 pub mod Under
+pub mod Lists
+pub mod Names
