@@ -2,3 +2,4 @@ pub mod Gaps
 pub mod Under
 pub mod Lists
 pub mod Names
+pub mod Passing

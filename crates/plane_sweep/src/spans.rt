@@ -23,8 +23,8 @@ pub struct Span {
 }
 
 // Whether edges may join where the corners are.
-pub fn may_join(v: Corner, w: Corner) -> bool
-    ensures { IsTrue result ↔ MayJoin v w }
+pub fn may_join(v: &Corner, w: &Corner) -> bool
+    ensures { IsTrue result ↔ MayJoin v.now w.now }
 {
-    v == w || (v.is_end && w.is_end)
+    *v == *w || (v.is_end && w.is_end)
 }
