@@ -1,7 +1,8 @@
 -- Lists in parts: what holds of each element, of each two and of neighbours.
-use Rattle.std.proofs.Common.{◌≡◌, ◌⊎◌, ◌∙◌, ◌<◌, inl, inr, zero, suc, List, [], ◌∷◌, ◌++◌, refl, sym, ap, subst, arith}
+use Rattle.std.proofs.Common.{◌≡◌, ◌⊎◌, ◌∙◌, ◌<◌, ◌==◌, false, IsTrue, length, inl, inr, zero, suc, List, [], ◌∷◌, ◌++◌, refl, sym, ap, subst, arith}
 use Rattle.std.specs.Prelude.{Contains}
 use Rattle.std.proofs.lemmas.List.Elements.{Contains-append_cases, Contains-append_left, Contains-append_right}
+use Rattle.std.proofs.lemmas.Bool.{eqb-true}
 use Rattle.arc_map.specs.Edges.{EachOf, EachTwo}
 use Rattle.plane_sweep.specs.Passage.{FirstHas, LastHas, Chained}
 
@@ -90,3 +91,13 @@ pub last_has : {X : Type 0} (P : X → Type 0) (xs : List X) (x : X) → P x →
 last_has P [] x h = h
 last_has P (y ∷ []) x h = h
 last_has P (y ∷ z ∷ zs) x h = last_has P (z ∷ zs) x h
+
+-- between two chains stand no new elements ..
+pub chained_directly : {X : Type 0} (R : X → X → Type 0) (lower new upper : List X) → IsTrue (length new == 0) → LastHas (λ x. FirstHas (R x) upper) lower → Chained R lower → Chained R upper → Chained R (lower ++ (new ++ upper))
+chained_directly R lower [] upper none seam first second = chained_joined R lower upper first second seam
+chained_directly R lower (x ∷ xs) upper none seam first second = let e = eqb-true (suc (length xs)) 0 none in absurd (omega (arith, e))
+
+-- .. or some, which are a chain too
+pub chained_over : {X : Type 0} (R : X → X → Type 0) (lower new upper : List X) → (length new == 0) ≡ false → LastHas (λ x. FirstHas (R x) new) lower → Chained R new → LastHas (λ x. FirstHas (R x) upper) new → Chained R lower → Chained R upper → Chained R (lower ++ (new ++ upper))
+chained_over R lower [] upper some under middle over first second = absurd cc
+chained_over R lower (x ∷ xs) upper some under middle over first second = chained_joined R lower ((x ∷ xs) ++ upper) first (chained_joined R (x ∷ xs) upper middle second over) under

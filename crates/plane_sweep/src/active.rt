@@ -109,9 +109,16 @@ fn is_over_last(below: &[Span], q: Point) -> bool
     ensures { IsTrue result → LastHas (λ s. pos 0 <ℤ side_of s q) below.now }
 {
     match below.split_last() {
-        Some((span, _)) => side(span, q) > 0,
+        Some((span, _)) => is_above(span, q),
         None => true,
     }
+}
+
+// Whether the place is above the span.
+fn is_above(span: &Span, q: Point) -> bool
+    ensures { IsTrue result ↔ (pos 0 <ℤ side_of span.now q) }
+{
+    side(span, q) > 0
 }
 
 // Whether the place is under the first span, or there is none.
@@ -195,8 +202,10 @@ fn are_linked_to(below: &[Span], new: &[Span], above: &[Span]) -> bool
 {
     if new.is_empty() {
         is_seam(below, above)
+    } else if is_seam(below, new) {
+        are_linked(new) && is_seam(new, above)
     } else {
-        is_seam(below, new) && are_linked(new) && is_seam(new, above)
+        false
     }
 }
 

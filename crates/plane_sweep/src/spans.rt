@@ -1,9 +1,14 @@
 //! The edges of a map as spans from their lower end to their higher one.
-ghost use Rattle.std.specs.Prelude.{◌↔◌, IsTrue};
+ghost use Rattle.std.specs.Prelude.{◌≡◌, ◌↔◌, ◌<◌, ◌+◌, ◌==◌, ◌||◌, IsTrue, IfOk, OnOk, length, slice_index_or};
+ghost use Rattle.arc_map.specs.Arranged.{nowhere};
+ghost use Rattle.arc_map.specs.Map.{IsArc};
 ghost use Rattle.plane_sweep.specs.Meeting.{MayJoin};
+ghost use Rattle.plane_sweep.specs.Spans.{AreSpansBefore, AreSpansOf, IsSpanAt};
 
-use arc_map::EdgeRef;
-use grid_exact::Point;
+use arc_map::{ArcMap, EdgeRef, NoMemory};
+use grid_exact::{Frame, Point, area, order, precedes};
+use std::alloc::{AllocError, Global};
+use std::cmp::Ordering;
 
 // A position of an arc: its arc, its number in the arc, whether it is the first or the last there, and its place.
 #[derive(Clone, Copy, PartialEq, Eq)]
@@ -27,4 +32,76 @@ pub fn may_join(v: &Corner, w: &Corner) -> bool
     ensures { IsTrue result ↔ MayJoin v.now w.now }
 {
     *v == *w || (v.is_end && w.is_end)
+}
+
+// The edges of the map, in the order of their lower ends; those that begin at one place from the lowest to the highest.
+pub fn spans_of(alloc: Global, map: &ArcMap) -> Result<Vec<Span>, NoMemory>
+    ensures { IfOk result (λ spans. AreSpansOf map.now spans.items) }
+{
+    let mut spans = Vec::new(alloc);
+    for arc in 0..map.arc_count() {
+        push_arc(&mut spans, map, arc)?;
+    }
+    spans.sort_unstable_by(|e, f| by_low(e, f));
+    Ok(spans)
+}
+
+// By lower end, then by the way up from there.
+fn by_low(e: &Span, f: &Span) -> Ordering {
+    match order(Frame::Plain, e.low.place, f.low.place) {
+        Ordering::Equal => 0.cmp(&area(e.low.place, e.high.place, f.high.place)),
+        other => other,
+    }
+}
+
+// Adds the edges of the arc.
+fn push_arc(spans: &mut Vec<Span>, map: &ArcMap, arc: u32) -> Result<(), AllocError>
+    requires arc { arc < length map.now.arcs }
+    requires so_far { AreSpansBefore map.now arc 0 spans.old.items }
+    ensures { OnOk result (AreSpansBefore map.now (arc + 1) 0 spans.new.items) }
+{
+    let positions = map.arc(arc);
+    for at in 1..positions.len() {
+        spans.push(span_at(positions, arc, at as u32 - 1))?;
+    }
+    Ok(())
+}
+
+// The edge from the position to the next one.
+fn span_at(positions: &[Point], arc: u32, at: u32) -> Span
+    requires arc { IsArc positions.now }
+    requires within { at + 1 < length positions.now }
+    ensures { IsSpanAt positions.now arc at result }
+{
+    let start = corner_at(positions, arc, at);
+    let end = corner_at(positions, arc, at + 1);
+    let edge = EdgeRef { arc, at };
+    if precedes(Frame::Plain, start.place, end.place) {
+        Span {
+            low: start,
+            high: end,
+            edge,
+        }
+    } else {
+        Span {
+            low: end,
+            high: start,
+            edge,
+        }
+    }
+}
+
+fn corner_at(positions: &[Point], arc: u32, at: u32) -> Corner
+    requires { at < length positions.now }
+    ensures arc { result.arc ≡ arc }
+    ensures at { result.at ≡ at }
+    ensures end { result.is_end ≡ ((at == 0) || (at + 1 == length positions.now)) }
+    ensures place { result.place ≡ slice_index_or positions.now at nowhere }
+{
+    Corner {
+        arc,
+        at,
+        is_end: at == 0 || at as usize + 1 == positions.len(),
+        place: positions[at as usize],
+    }
 }
