@@ -3,3 +3,4 @@ pub mod Under
 pub mod Lists
 pub mod Names
 pub mod Passing
+pub mod Spanning

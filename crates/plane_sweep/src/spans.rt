@@ -1,5 +1,5 @@
 //! The edges of a map as spans from their lower end to their higher one.
-ghost use Rattle.std.specs.Prelude.{◌≡◌, ◌↔◌, ◌<◌, ◌+◌, ◌==◌, ◌||◌, IsTrue, IfOk, OnOk, length, slice_index_or};
+ghost use Rattle.std.specs.Prelude.{◌≡◌, ◌↔◌, ◌<◌, ◌≤◌, ◌^◌, ◌+◌, ◌==◌, ◌||◌, IsTrue, IfOk, OnOk, length, slice_index_or};
 ghost use Rattle.arc_map.specs.Arranged.{nowhere};
 ghost use Rattle.arc_map.specs.Map.{IsArc};
 ghost use Rattle.plane_sweep.specs.Meeting.{MayJoin};
@@ -71,6 +71,7 @@ fn push_arc(spans: &mut Vec<Span>, map: &ArcMap, arc: u32) -> Result<(), AllocEr
 fn span_at(positions: &[Point], arc: u32, at: u32) -> Span
     requires arc { IsArc positions.now }
     requires within { at + 1 < length positions.now }
+    requires short { length positions.now ≤ 2 ^ 20 }
     ensures { IsSpanAt positions.now arc at result }
 {
     let start = corner_at(positions, arc, at);
