@@ -4,3 +4,4 @@ pub mod Lists
 pub mod Names
 pub mod Passing
 pub mod Spanning
+pub mod Sweeping

@@ -1,3 +1,4 @@
 pub mod Spans
 pub mod Meeting
 pub mod Passage
+pub mod Places

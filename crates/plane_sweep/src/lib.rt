@@ -2,5 +2,7 @@
 #![tactic(auto)]
 
 mod active;
+mod places;
 mod spans;
+mod sweep;
 
