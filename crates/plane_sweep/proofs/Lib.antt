@@ -5,3 +5,5 @@ pub mod Names
 pub mod Passing
 pub mod Spanning
 pub mod Sweeping
+pub mod Placing
+pub mod Cleaning

@@ -4,9 +4,9 @@ use Rattle.grid_exact.specs.Geometry.{Place, IsBefore}
 use Rattle.plane_sweep.specs.declared.spans.Span.{Span}
 use Rattle.plane_sweep.specs.Meeting.{MeetLawfully}
 
--- each element of the first list is one of the second
-abbrev pub ContainsAll : {A : Type 0} → List A → List A → Type 0
-ContainsAll {A} xs ys = (x : A) → Contains xs x → Contains ys x
+-- each place of the first list is one of the second
+abbrev pub ContainsAll : List Place → List Place → Type 0
+ContainsAll xs ys = (p : Place) → Contains xs p → Contains ys p
 
 -- the place where each span ends is one of these
 abbrev pub HasHighs : List Span → List Place → Type 0
