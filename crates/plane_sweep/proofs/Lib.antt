@@ -7,3 +7,4 @@ pub mod Spanning
 pub mod Sweeping
 pub mod Placing
 pub mod Cleaning
+pub mod Answering

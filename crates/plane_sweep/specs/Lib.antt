@@ -2,3 +2,4 @@ pub mod Spans
 pub mod Meeting
 pub mod Passage
 pub mod Places
+pub mod Answers

@@ -2,7 +2,12 @@
 #![tactic(auto)]
 
 mod active;
+mod check;
+mod clashes;
 mod places;
 mod spans;
-mod sweep;
+mod walk;
+mod towns;
+
+pub use check::{Swept, check_by_sweep, sweep};
 

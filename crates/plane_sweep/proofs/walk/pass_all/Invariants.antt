@@ -1,6 +1,6 @@
 use Rattle.std.proofs.Common.{length}
 use Rattle.plane_sweep.proofs.Sweeping.{Sweeps}
-use Rattle.plane_sweep.proofs.sweep.pass_all.Given as goal
+use Rattle.plane_sweep.proofs.walk.pass_all.Given as goal
 
 abbrev pub invariant-loop-q : goal.invariant-loop-q
 invariant-loop-q l = Sweeps l.spans l.places l.left l.rest l.active.items

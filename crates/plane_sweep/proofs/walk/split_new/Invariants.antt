@@ -1,5 +1,5 @@
 use Rattle.std.proofs.Common.{◌-◌, ◌≤◌, length}
-use Rattle.plane_sweep.proofs.sweep.split_new.Given as goal
+use Rattle.plane_sweep.proofs.walk.split_new.Given as goal
 
 abbrev pub invariant-loop-count : goal.invariant-loop-count
 invariant-loop-count l = l.count ≤ length l.spans

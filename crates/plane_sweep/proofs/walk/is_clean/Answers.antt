@@ -1,7 +1,7 @@
 use Rattle.std.proofs.Common.{subst}
 use Rattle.plane_sweep.specs.Places.{AllMeetLawfully, HasHighs}
 use Rattle.plane_sweep.proofs.Cleaning.{all_rise, no_clash}
-use Rattle.plane_sweep.proofs.sweep.is_clean.Goals as goal
+use Rattle.plane_sweep.proofs.walk.is_clean.Goals as goal
 
 pub pass_all-requires-clause-rising : goal.pass_all-requires-clause-rising
 pass_all-requires-clause-rising c = rw c.deref-3.ensures.value (all_rise c.args.map.now c.in_ok-spans.spans.items c.in_ok-spans.ensures)

@@ -1,7 +1,7 @@
 use Rattle.std.proofs.Common.{sym, ◌∙◌}
 use Rattle.plane_sweep.proofs.Placing.{empty_list, empty_tested}
 use Rattle.plane_sweep.proofs.Sweeping.{sweeps_last, sweeps_next}
-use Rattle.plane_sweep.proofs.sweep.pass_all.Goals as goal
+use Rattle.plane_sweep.proofs.walk.pass_all.Goals as goal
 
 pub loop-q-preserved : goal.loop-q-preserved
 loop-q-preserved c =
