@@ -1,6 +1,6 @@
 -- What a walk over the pairs of edges, and over the edges near a feature point, tells at its end.
-use Rattle.std.proofs.Common.{◌≡◌, ◌↔◌, ◌∙◌, ◌+◌, ◌<◌, inl, inr, ℕ, ℤ, List, [], ◌∷◌, arith, refl, sym, ap, subst, get_or, length, Result, Ok, Err}
-use Rattle.std.specs.Prelude.{All, Contains, Option, Some, None, IfSome, IfNone, slice_get}
+use Rattle.std.proofs.Common.{◌≡◌, ◌+◌, ◌<◌, inl, inr, ℕ, List, [], ◌∷◌, arith, refl, sym, subst, get_or, length}
+use Rattle.std.specs.Prelude.{All, Option, Some, None, IfSome, IfNone, slice_get}
 use Rattle.std.proofs.lemmas.Bool.{cases_lt}
 use Rattle.std.proofs.lemmas.Option.{get_or_from_slice_get}
 use Rattle.std.proofs.lemmas.List.Elements.{All-rest, All-weaker}
@@ -11,13 +11,13 @@ use Rattle.arc_map.specs.Arranged.{HasNoClash, IsEarlier, IsLeastPoint, IsMapEdg
 use Rattle.arc_map.specs.declared.refs.EdgeRef.{EdgeRef}
 use Rattle.sweep_index.specs.Pairs.{ArePairsOf}
 use Rattle.sweep_index.specs.Slabs.{AreEdgesAt, IsEdgeAt}
-use Rattle.arrangement_check.specs.Least.{HasNoTown, IsNew}
+use Rattle.arrangement_check.specs.Least.{IsNew}
 use Rattle.arrangement_check.proofs.Given.{first_of}
 use Rattle.arrangement_check.proofs.LeastSoFar.{DoClash}
 use Rattle.arrangement_check.proofs.Lesser.{earlier_trans, not_before_itself}
 use Rattle.arrangement_check.proofs.Nearby.{boxes_meet}
 use Rattle.arrangement_check.proofs.Walking.{IsNotBelow, Walked, not_below_newer, not_below_older, walk_end, walk_start, walk_step}
-use Rattle.plane_sweep.specs.Answers.{IsClash, IsLeastOn, IsOnNone}
+use Rattle.plane_sweep.specs.Answers.{IsLeastOn, IsOnNone}
 
 pub none_clash : (m : Map) (all left : List (EdgeRef × EdgeRef)) → ArePairsOf m all → left ≡ [] → Walked (DoClash m) (λ pair. ⊥) all left → HasNoClash m
 none_clash m all left pairs none walked e f first second rising clash = walk_end (DoClash m) (λ pair. ⊥) all left none walked (e, f) (pairs.all e f first second rising (boxes_meet m e f clash)) clash

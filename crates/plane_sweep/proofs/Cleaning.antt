@@ -1,13 +1,11 @@
 -- A map of which any two spans meet lawfully has no clash.
-use Rattle.std.proofs.Common.{◌≡◌, ◌∙◌, inl, inr, IsTrue, sym, ap, subst, arith, List}
-use Rattle.std.specs.Prelude.{Contains}
+use Rattle.std.proofs.Common.{◌≡◌, sym, subst, List}
 use Rattle.std.proofs.lemmas.List.Elements.{All-contains}
 use Rattle.arc_map.specs.Map.{Map}
 use Rattle.arc_map.specs.Arranged.{EdgesClash, HasNoClash, IsEarlier}
-use Rattle.arc_map.specs.declared.refs.EdgeRef.{EdgeRef}
 use Rattle.arrangement_check.proofs.Lesser.{not_before_itself}
 use Rattle.plane_sweep.specs.declared.spans.Span.{Span}
-use Rattle.plane_sweep.specs.Spans.{AreSpansOf, HasSpan, IsSpanOf}
+use Rattle.plane_sweep.specs.Spans.{AreSpansOf, IsSpanOf}
 use Rattle.plane_sweep.specs.Places.{AllMeetLawfully, AllRise}
 use Rattle.plane_sweep.proofs.Names.{lawful_is_no_clash}
 

@@ -1,5 +1,5 @@
 -- How far one edge is above another, from place to place: a linear count, by which one stays under the other between two places.
-use Rattle.std.proofs.Common.{◌≡◌, ◌∙◌, [], ◌∷◌, ℤ, pos, ◌+ℤ◌, ◌-ℤ◌, ◌*ℤ◌, ◌≤ℤ◌, ◌<ℤ◌, refl, arith, ap, sym, subst}
+use Rattle.std.proofs.Common.{◌≡◌, ◌∙◌, [], ◌∷◌, ℤ, pos, ◌+ℤ◌, ◌-ℤ◌, ◌*ℤ◌, ◌≤ℤ◌, ◌<ℤ◌, refl, arith, ap}
 use lib.IntN.{*ℤ_comm, zero-*ℤ, *ℤ-zero}
 use Rattle.grid_exact.specs.Geometry.{Place, area_of, IsBefore}
 use Rattle.grid_exact.specs.Geometry.IsBefore.{Left, Below}
@@ -7,7 +7,7 @@ use Rattle.grid_exact.specs.Spans.{IsUpTo}
 use Rattle.grid_exact.proofs.WholeLaws.{sums}
 use Rattle.grid_exact.proofs.Signs.{sign_of, times_nonnegative, times_positive, times_negative, nonnegative_times_nonpositive, positive_from_times, negative_from_times, square_nonnegative}
 use Rattle.grid_exact.proofs.Signs.SignOf.{Negative, Zero, Positive}
-use Rattle.grid_exact.proofs.Polynomial.{Equation, Polynomial, Whole, ◌⊕◌, ◌⊖◌, ◌⊗◌, ◌≈◌, Variable, by_identity, identity_2, identity_3, identity_4}
+use Rattle.grid_exact.proofs.Polynomial.{Polynomial, Whole, ◌⊕◌, ◌⊖◌, ◌⊗◌, ◌≈◌, Variable, by_identity, identity_2, identity_3, identity_4}
 use Rattle.grid_exact.proofs.Spots.{Spot, spot, numbers_of, area_in, turn_in}
 use Rattle.grid_exact.proofs.Areas.{turn_of}
 use Rattle.grid_exact.proofs.Orders.{up_to_cases}

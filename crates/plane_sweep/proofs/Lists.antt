@@ -1,5 +1,5 @@
 -- Lists in parts: what holds of each element, of each two and of neighbours.
-use Rattle.std.proofs.Common.{◌≡◌, ◌⊎◌, ◌∙◌, ◌<◌, ◌==◌, false, IsTrue, length, inl, inr, zero, suc, List, [], ◌∷◌, ◌++◌, refl, sym, ap, subst, arith}
+use Rattle.std.proofs.Common.{◌≡◌, ◌⊎◌, ◌∙◌, ◌==◌, false, IsTrue, length, inl, inr, zero, suc, List, [], ◌∷◌, ◌++◌, refl, sym, subst, arith}
 use Rattle.std.specs.Prelude.{Contains}
 use Rattle.std.proofs.lemmas.List.Elements.{Contains-append_cases, Contains-append_left, Contains-append_right}
 use Rattle.std.proofs.lemmas.Bool.{eqb-true}
@@ -30,7 +30,6 @@ each_by P [] all = tt
 each_by P (x ∷ xs) all = (all x (contains_first x xs), each_by P xs (λ y member. all y (contains_later x xs y member)))
 
 -- ---- each two
-
 
 pub two_first : {X : Type 0} (R : X → X → Type 0) (xs ys : List X) → EachTwo R (xs ++ ys) → EachTwo R xs
 two_first R [] ys two = tt

@@ -1,8 +1,7 @@
 -- Spans that meet lawfully are edges that do not clash.
-use Rattle.std.proofs.Common.{◌≡◌, ◌⊎◌, ◌∙◌, ◌+◌, ◌==◌, ◌&&◌, inl, inr, ℕ, IsTrue, ℤ, pos, ◌-ℤ◌, refl, sym, ap, subst, arith}
+use Rattle.std.proofs.Common.{◌≡◌, ◌+◌, ◌==◌, ◌&&◌, inl, inr, ℕ, IsTrue, ℤ, pos, ◌-ℤ◌, sym, ap, subst, arith}
 use Rattle.std.proofs.lemmas.Bool.{and_from, eq-eqb}
-use Rattle.grid_exact.specs.Geometry.{CommonPoint}
-use Rattle.grid_exact.specs.Clash.{Flags, IsLawful, Clash}
+use Rattle.grid_exact.specs.Clash.{IsLawful}
 use Rattle.grid_exact.specs.Clash.IsLawful.{Starts, StartAndEnd, EndAndStart, Ends, Next, Previous}
 use Rattle.grid_exact.proofs.WholeLaws.{sums}
 use Rattle.grid_exact.proofs.Commons.{first_turned, second_turned}
@@ -11,7 +10,7 @@ use Rattle.arc_map.specs.Arranged.{EdgesClash, IsEarlier, flags_between}
 use Rattle.arc_map.specs.declared.refs.EdgeRef.{EdgeRef}
 use Rattle.plane_sweep.specs.declared.spans.Corner.{Corner}
 use Rattle.plane_sweep.specs.declared.spans.Span.{Span}
-use Rattle.plane_sweep.specs.Meeting.{MayJoin, IsJunction, MeetLawfully}
+use Rattle.plane_sweep.specs.Meeting.{MayJoin, MeetLawfully}
 use Rattle.plane_sweep.specs.Meeting.MayJoin.{One, BothEnd}
 use Rattle.plane_sweep.specs.Meeting.IsJunction.{Lows, LowAndHigh, HighAndLow, Highs}
 use Rattle.plane_sweep.specs.Spans.{corner_in, IsSpanOf}

@@ -1,11 +1,11 @@
 -- What holds of the active spans goes on to hold where the sweep passes a place.
-use Rattle.std.proofs.Common.{◌≡◌, ◌⊎◌, ◌∙◌, inl, inr, ℤ, pos, ◌≤ℤ◌, ◌<ℤ◌, List, [], ◌∷◌, ◌++◌, refl, sym, ap, subst, arith}
+use Rattle.std.proofs.Common.{◌≡◌, ◌⊎◌, ◌∙◌, inl, inr, pos, ◌<ℤ◌, List, [], ◌∷◌, ◌++◌, sym, ap, subst, arith}
 use Rattle.std.specs.Prelude.{Contains}
 use Rattle.std.proofs.lemmas.List.Elements.{Contains-append_cases, Contains-append_left, Contains-append_right}
 use Rattle.grid_exact.specs.Geometry.{Place, area_of, IsBefore}
 use Rattle.grid_exact.specs.Spans.{IsUpTo}
 use Rattle.grid_exact.proofs.WholeLaws.{sums}
-use Rattle.grid_exact.proofs.Orders.{up_to, up_to_same, then_before, not_before_itself}
+use Rattle.grid_exact.proofs.Orders.{up_to, up_to_same}
 use Rattle.arc_map.specs.Edges.{EachOf, EachTwo}
 use Rattle.plane_sweep.specs.declared.spans.Corner.{Corner}
 use Rattle.plane_sweep.specs.declared.spans.Span.{Span}
@@ -13,7 +13,7 @@ use Rattle.plane_sweep.specs.Meeting.{MayJoin, MeetLawfully, side_of, BeginsUnde
 use Rattle.plane_sweep.specs.Meeting.BeginsUnder.{LaterAbove, LaterBelow, Together}
 use Rattle.plane_sweep.specs.Passage.{FirstHas, LastHas, Chained, TurnsUp, EndsAt, BeginsAt, MayPass, IsPassage}
 use Rattle.plane_sweep.proofs.Gaps.{fan, zero_at_end}
-use Rattle.plane_sweep.proofs.Under.{join_both, join_turned, Spanned, under_at, Ended, under_is_lawful, lawful_turned, next_is_lawful, later_is_lawful}
+use Rattle.plane_sweep.proofs.Under.{join_both, Spanned, under_at, Ended, under_is_lawful, lawful_turned, next_is_lawful, later_is_lawful}
 use Rattle.plane_sweep.proofs.Under.Ended.{EndedAbove, EndedBelow, EndedTogether}
 use Rattle.plane_sweep.proofs.Lists.{contains_cases, contains_none, contains_first, contains_later, of_each, each_by, two_first, two_second, two_across, two_joined, two_either, chained_first, chained_second}
 

@@ -1,6 +1,6 @@
 -- The spans of a map, as they are gathered arc by arc.
-use Rattle.std.proofs.Common.{◌≡◌, ◌⊎◌, ◌∙◌, ◌+◌, ◌-◌, ◌<◌, ◌≤◌, ◌==◌, ◌||◌, inl, inr, ℕ, Bool, List, [], ◌∷◌, ◌++◌, All, length, get_or, Some, refl, sym, ap, subst, arith}
-use Rattle.std.specs.Prelude.{Contains, slice_get}
+use Rattle.std.proofs.Common.{◌≡◌, ◌⊎◌, ◌∙◌, ◌+◌, ◌-◌, ◌<◌, inl, inr, ℕ, Bool, List, [], ◌∷◌, ◌++◌, length, get_or, Some, sym, ap, subst, arith}
+use Rattle.std.specs.Prelude.{slice_get}
 use Rattle.std.specs.List.Sorted.{IsPermutation}
 use Rattle.std.proofs.lemmas.Bool.{cases_lt}
 use Rattle.std.proofs.lemmas.List.{get_or_default}
@@ -16,7 +16,7 @@ use Rattle.sweep_index.specs.Things.{IsEdgeBefore}
 use Rattle.arrangement_check.proofs.Positions.{arc_in, arc_is, ends_differ}
 use Rattle.plane_sweep.specs.declared.spans.Corner.{Corner}
 use Rattle.plane_sweep.specs.declared.spans.Span.{Span}
-use Rattle.plane_sweep.specs.Spans.{AreSpansBefore, AreSpansOf, HasSpan, IsSpanAt, IsSpanOf, corner_at, corner_in}
+use Rattle.plane_sweep.specs.Spans.{AreSpansBefore, AreSpansOf, HasSpan, IsSpanAt, IsSpanOf, corner_in}
 
 -- ---- one edge
 

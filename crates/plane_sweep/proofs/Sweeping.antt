@@ -6,11 +6,10 @@ use Rattle.std.proofs.lemmas.List.Elements.{Contains-append_left, Contains-appen
 use Rattle.grid_exact.specs.Geometry.{Place, IsBefore}
 use Rattle.grid_exact.proofs.Orders.{not_both_ways, not_before_itself, then_before}
 use Rattle.plane_sweep.specs.declared.spans.Span.{Span}
-use Rattle.plane_sweep.specs.Meeting.{MeetLawfully}
 use Rattle.plane_sweep.specs.Passage.{Chained, FirstHas, IsPassage}
 use Rattle.plane_sweep.specs.Places.{AllMeetLawfully, AllRise, HasHighs}
 use Rattle.plane_sweep.proofs.Lists.{contains_cases, contains_none, contains_first, contains_later, of_each}
-use Rattle.plane_sweep.proofs.Passing.{AreNew, Holds, IsAhead, holds_first, holds_last, holds_passed}
+use Rattle.plane_sweep.proofs.Passing.{Holds, IsAhead, holds_first, holds_last, holds_passed}
 
 -- a place is before all that come after one that it is before
 pub ahead_of : (p : Place) (rest : List Place) → FirstHas (IsBefore p) rest → Chained IsBefore rest → IsAhead p rest

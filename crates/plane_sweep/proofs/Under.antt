@@ -1,5 +1,5 @@
 -- Two spans: one stays under the other between two places, and two that are so from begin to end meet lawfully.
-use Rattle.std.proofs.Common.{◌≡◌, ◌∙◌, ℤ, pos, ◌+ℤ◌, ◌-ℤ◌, ◌*ℤ◌, ◌≤ℤ◌, ◌<ℤ◌, refl, arith, ap, sym, subst}
+use Rattle.std.proofs.Common.{◌≡◌, ◌∙◌, ℤ, pos, ◌-ℤ◌, ◌*ℤ◌, ◌≤ℤ◌, ◌<ℤ◌, refl, arith, ap, sym, subst}
 use lib.IntN.{*ℤ_comm, *ℤ-zero}
 use Rattle.grid_exact.specs.Geometry.{Place, area_of, CommonPoint, IsBefore}
 use Rattle.grid_exact.specs.Spans.{IsUpTo}

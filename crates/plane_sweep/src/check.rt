@@ -8,8 +8,8 @@ ghost use Rattle.plane_sweep.specs.Answers.{IsAnswer, IsClash};
 ghost use Rattle.plane_sweep.specs.declared.check.Swept.{Swept};
 
 use crate::clashes::first_clash;
-use crate::walk::is_clean;
 use crate::towns::least_town;
+use crate::walk::is_clean;
 use arc_map::{ArcMap, EdgeRef, NoMemory};
 use arrangement_check::{Arranged, CheckError, check};
 use std::alloc::Global;

@@ -6,8 +6,10 @@ mod check;
 mod clashes;
 mod places;
 mod spans;
-mod walk;
 mod towns;
+mod walk;
 
 pub use check::{Swept, check_by_sweep, sweep};
 
+#[cfg(test)]
+mod tests;
