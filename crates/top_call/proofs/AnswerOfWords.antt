@@ -19,11 +19,12 @@ use Rattle.top_call.specs.declared.status.Role.{Role}
 use Rattle.top_call.specs.declared.status.Role.TheVariants.{File, Out, Cert}
 use Rattle.top_call.specs.declared.status.Status.{Status}
 use Rattle.top_call.specs.declared.status.Status.TheVariants.{TooLarge}
-use Rattle.top_call.specs.Words.{Form, Simplify, Layers, Check, Faces, Make, Demo, form_of}
+use Rattle.top_call.specs.Words.{Form, Simplify, Layers, Check, Faces, Make, Demo, Dissolve, form_of}
 use Rattle.top_call.specs.Reading.{Named, named, limit_of, IsWithin, IsPast, IsFirstPast, IsFirstUnheld, Read, read_as, AreRead, AreShort}
 use Rattle.top_call.specs.Maps.{IsRefusal, scales_of}
-use Rattle.top_call.specs.Answers.{Answer, refused, done, told, plain, terms_of, version_of, text_with, faces_text, position_count, demo_text, IsRun, IsSimplified, IsCertified, IsFaced, IsDemoed, IsMapAnswer, Refused, Written, IsCheckAnswer, RefusedFile, Told, IsChecked, NotCertificate, IsRefuted, IsCompared, IsWorkAnswer, IsFormAnswer, NotHeld, TooLong, Worked, IsAnswerBy}
+use Rattle.top_call.specs.Answers.{Answer, refused, done, told, plain, terms_of, version_of, text_with, faces_text, position_count, demo_text, IsRun, IsSimplified, IsCertified, IsFaced, IsDemoed, IsMapAnswer, Refused, Written, IsCheckAnswer, RefusedFile, Told, IsChecked, NotCertificate, IsRefuted, IsCompared, IsDissolveAnswer, IsWorkAnswer, IsFormAnswer, NotHeld, TooLong, Worked, IsAnswerBy}
 use Rattle.top_call.specs.Laws.{AnswerIsOne}
+use Rattle.top_call.proofs.Borders.{dissolve_answer_is_one}
 use Rattle.top_call.proofs.NotRefused.{loaded_not_refused}
 use Rattle.top_call.proofs.OneLoading.{loaded_is_one}
 use Rattle.top_call.proofs.OneRefusal.{refusal_is_one}
@@ -169,6 +170,9 @@ work_answer_is_one (Faces file) texts read other a b are also first second =
 work_answer_is_one (Make rows cols seed) texts read other a b are also first second = first ∙ sym second
 work_answer_is_one (Demo rows cols seed bound) texts read other a b are also first second =
     first.2 ∙ ap done (demoed_is_one rows cols seed bound first.0 second.0 first.1 second.1) ∙ sym second.2
+work_answer_is_one (Dissolve polygons file) texts read other a b are also first second =
+    let same = same_read (text_of texts file) read.file other.file are.0 also.0 in
+    dissolve_answer_is_one polygons read.file a b first (subst (λ (xs : List ℕ). IsDissolveAnswer polygons xs b) same second)
 
 -- ---- the whole
 

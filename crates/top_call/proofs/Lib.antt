@@ -1,6 +1,8 @@
 pub mod Digits
 pub mod Entries
 pub mod OtherWords
+pub mod Numbers
+pub mod ListWords
 pub mod Spelling
 pub mod Writing
 pub mod Grouping
@@ -12,6 +14,7 @@ pub mod CountLines
 pub mod Demoed
 pub mod PointLines
 pub mod Settled
+pub mod Borders
 pub mod OneTree
 pub mod OneLoading
 pub mod ReadMaps

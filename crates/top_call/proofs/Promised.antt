@@ -1,5 +1,5 @@
 -- The promises of a run, from its answer.
-use Rattle.std.proofs.Common.{◌≡◌, ◌∙◌, ℕ, ℤ, Bool, List, [], ◌∷◌, Option, None, Some, ap, refl, sym, subst, inl, inr, arith}
+use Rattle.std.proofs.Common.{◌≡◌, ◌∙◌, ℕ, ℤ, Bool, List, [], ◌∷◌, Option, None, Some, length, ap, refl, sym, subst, inl, inr, arith}
 use Rattle.std.proofs.lemmas.List.{append_cancel_left}
 use Rattle.std.specs.Prelude.{◌≢◌, ◌⊎◌, IsTrue}
 use Rattle.std.proofs.lemmas.Option.{none-some, same_Some}
@@ -13,15 +13,17 @@ use Rattle.top_call.specs.declared.forms.Options.{Options}
 use Rattle.top_call.specs.declared.status.Role.{Role}
 use Rattle.top_call.specs.declared.status.Role.TheVariants.{File}
 use Rattle.top_call.specs.declared.status.Status.{Status}
-use Rattle.top_call.specs.declared.status.Status.TheVariants.{Done, No, Usage, NotUtf8, NotJson, NotTopology, OffProfile, TooLarge, NotArranged, ReadFault, WriteFault, NoMemory, OffWeights}
-use Rattle.top_call.specs.Words.{Form, Simplify, Layers, Check, Faces, Make, Demo, form_of}
+use Rattle.top_call.specs.declared.status.Status.TheVariants.{Done, No, Usage, NotUtf8, NotJson, NotTopology, OffProfile, TooLarge, NotArranged, ReadFault, WriteFault, NoMemory, OffWeights, NoPolygon}
+use Rattle.top_call.specs.Words.{Form, Simplify, Layers, Check, Faces, Make, Demo, Dissolve, form_of}
 use Rattle.top_call.specs.Reading.{Read, Named, named, AreRead, IsWithin, IsPast, IsFirstPast, IsFirstUnheld}
 use Rattle.top_call.specs.Maps.{IsLoaded, NoTree, NoTopology, Clash, OnArc, IsRefusal, NoMap, OffGrid, Unarranged, scan_status, fault_status}
-use Rattle.top_call.specs.Answers.{Answer, plain, IsSimplified, IsCertified, IsFaced, IsMapAnswer, Refused, Written, IsWorkAnswer, IsFormAnswer, NotHeld, TooLong, Worked, IsAnswerBy, IsAnswer}
+use Rattle.top_call.specs.Answers.{Answer, plain, IsSimplified, IsCertified, IsFaced, IsMapAnswer, Refused, Written, IsDissolved, IsDissolveAnswer, RefusedMap, Missed, Dissolved, first_missing, IsWorkAnswer, IsFormAnswer, NotHeld, TooLong, Worked, IsAnswerBy, IsAnswer}
 use Rattle.top_call.specs.Endings.{IsMapStatus, IsWritten, IsWorkStatus, Wrote, Settles}
-use Rattle.top_call.specs.Headline.{IsFaithful, Headline, IsReady, CanWork, Completes, IsMaking, IsMakingStatus, Makes}
+use Rattle.top_call.specs.Headline.{IsFaithful, Headline, IsReady, HasPolygons, CanWork, Completes, IsBorderOf, Borders, IsMaking, IsMakingStatus, Makes}
+use Rattle.top_call.proofs.Borders.{all_there, dissolved_is_border}
 use Rattle.top_call.proofs.Faithful.{simplified_is_faithful}
 use Rattle.top_call.proofs.NotRefused.{loaded_not_refused}
+use Rattle.top_call.proofs.OneTree.{text_has_one_topology}
 
 -- ---- answers that are known
 
@@ -40,6 +42,7 @@ answered IsIt tells before now ReadFault read write h = absurd (read refl)
 answered IsIt tells before now WriteFault read write h = absurd (write refl)
 answered IsIt tells before now NoMemory read write h = inl refl
 answered IsIt tells before now (OffWeights arc at) read write h = inr h
+answered IsIt tells before now (NoPolygon k) read write h = inr h
 
 -- ---- what is written of a text that is simplified
 
@@ -85,6 +88,33 @@ headline words texts tells before now s settled told options bound file text byt
     let answer = subst (λ (o : Option Form). IsAnswerBy o texts known.0) is_form known.1 in
     faithful_answer options bound file text bytes texts known.0 is_text known.2 (append_cancel_left before bytes known.0.bytes (sym wrote ∙ known.3 told)) answer
 
+-- ---- what is written of polygons that are dissolved
+
+border_answer : (polygons file text bytes : List ℕ) (texts : Texts) (a : Answer) → text_of texts file ≡ Some text → Done ≡ a.status → bytes ≡ a.bytes → IsFormAnswer (Dissolve polygons file) texts a → IsBorderOf polygons text bytes
+border_answer polygons file text bytes texts a is_text is_done is (NotHeld none e) =
+    let never : Done ≡ ReadFault = is_done ∙ ap (λ (b : Answer). b.status) e in
+    absurd cc
+border_answer polygons file text bytes texts a is_text is_done is (TooLong role past e) =
+    let never = is_done ∙ ap (λ (b : Answer). b.status) e in
+    absurd cc
+border_answer polygons file text bytes texts a is_text is_done is (Worked read are short (RefusedMap s why e)) =
+    let same : s ≡ Done = sym (is_done ∙ ap (λ (b : Answer). b.status) e) in
+    absurd (subst IsMapStatus same (refusal_kind plain read.file s why))
+border_answer polygons file text bytes texts a is_text is_done is (Worked read are short (Missed k missing e)) =
+    let never = is_done ∙ ap (λ (b : Answer). b.status) e in
+    absurd cc
+border_answer polygons file text bytes texts a is_text is_done is (Worked read are short (Dissolved out by e)) =
+    let of_text = same_Some read.file text (sym are.0 ∙ is_text) in
+    let of_bytes : out ≡ bytes = sym (is ∙ ap (λ (b : Answer). b.bytes) e) in
+    let dissolved = subst (λ (xs : List ℕ). IsDissolved polygons read.file xs) of_bytes by in
+    dissolved_is_border polygons text bytes (subst (λ (xs : List ℕ). IsDissolved polygons xs bytes) of_text dissolved)
+
+pub borders : (words : List (List ℕ)) (texts : Texts) (tells : Bool) (before now : List ℕ) (s : Status) → Settles (IsAnswer words texts) tells before now s → IsTrue tells → Borders words texts before now s
+borders words texts tells before now s settled told polygons file text bytes is_form is_text is_done wrote =
+    let known = subst (λ (r : Status). Settles (IsAnswer words texts) tells before now r) is_done settled in
+    let answer = subst (λ (o : Option Form). IsAnswerBy o texts known.0) is_form known.1 in
+    border_answer polygons file text bytes texts known.0 is_text known.2 (append_cancel_left before bytes known.0.bytes (sym wrote ∙ known.3 told)) answer
+
 -- ---- which texts are worked on
 
 -- a text is held under each name, and is no longer than its role allows
@@ -115,22 +145,42 @@ map_done : (options : Options) (text : List ℕ) (W : List ℕ → Type 0) (t : 
 map_done options text W t held a loaded (Refused s why e) = absurd (loaded_not_refused options text t held s loaded why)
 map_done options text W t held a loaded (Written bytes is e) = ap (λ (b : Answer). b.status) e
 
+-- the answer of a form that names FILE alone, by its work on the text that is ready
+ready_work : (options : Options) (file : List ℕ) (f : Form) (texts : Texts) (a : Answer) → named f ≡ (File, file) ∷ [] → (ready : IsReady options texts file) → ((read : Read) → ready.text ≡ read.file → IsWorkAnswer f read a → a.status ≡ Done) → IsFormAnswer f texts a → a.status ≡ Done
+ready_work options file f texts a names ready works (NotHeld none e) =
+    absurd (none_unheld texts ((File, file) ∷ []) (file_within options texts file ready, tt) (subst (λ (ns : List Named). IsFirstUnheld texts ns) names none))
+ready_work options file f texts a names ready works (TooLong role past e) =
+    absurd (none_past texts ((File, file) ∷ []) role (file_within options texts file ready, tt) (subst (λ (ns : List Named). IsFirstPast texts ns role) names past))
+ready_work options file f texts a names ready works (Worked read are short work) =
+    let here = subst (λ (ns : List Named). AreRead texts ns read) names are in
+    works read (same_Some ready.text read.file (sym ready.is_held ∙ here.0)) work
+
 -- the answer of a form that works on the map of FILE alone
 ready_answer : (options : Options) (file : List ℕ) (W : List ℕ → List ℕ → Type 0) (f : Form) (texts : Texts) (a : Answer) → named f ≡ (File, file) ∷ [] → ((read : Read) → IsWorkAnswer f read a → IsMapAnswer options read.file (W read.file) a) → IsReady options texts file → IsFormAnswer f texts a → a.status ≡ Done
-ready_answer options file W f texts a names works ready (NotHeld none e) =
-    absurd (none_unheld texts ((File, file) ∷ []) (file_within options texts file ready, tt) (subst (λ (ns : List Named). IsFirstUnheld texts ns) names none))
-ready_answer options file W f texts a names works ready (TooLong role past e) =
-    absurd (none_past texts ((File, file) ∷ []) role (file_within options texts file ready, tt) (subst (λ (ns : List Named). IsFirstPast texts ns role) names past))
-ready_answer options file W f texts a names works ready (Worked read are short work) =
-    let here = subst (λ (ns : List Named). AreRead texts ns read) names are in
-    let same = same_Some ready.text read.file (sym ready.is_held ∙ here.0) in
-    let loaded = subst (λ (xs : List ℕ). IsLoaded options xs ready.topology ready.held) same ready.loaded in
-    map_done options read.file (W read.file) ready.topology ready.held a loaded (works read work)
+ready_answer options file W f texts a names works ready is =
+    ready_work options file f texts a names ready (λ read same work.
+    map_done options read.file (W read.file) ready.topology ready.held a (subst (λ (xs : List ℕ). IsLoaded options xs ready.topology ready.held) same ready.loaded) (works read work)) is
+
+-- a text that has the polygons is dissolved
+border_done : (polygons text : List ℕ) (t : TopologyRead) (held : List ℕ) (a : Answer) → IsLoaded plain text t held → first_missing (length t.map.polygons) polygons ≡ None → IsDissolveAnswer polygons text a → a.status ≡ Done
+border_done polygons text t held a loaded known (RefusedMap s why e) = absurd (loaded_not_refused plain text t held s loaded why)
+border_done polygons text t held a loaded known (Missed k missing e) =
+    let same = text_has_one_topology text t missing.topology loaded.topology missing.loaded.topology in
+    absurd (none-some k (sym known ∙ ap (λ (u : TopologyRead). first_missing (length u.map.polygons) polygons) same ∙ missing.first))
+border_done polygons text t held a loaded known (Dissolved bytes by e) = ap (λ (b : Answer). b.status) e
+
+polygons_done : (polygons file : List ℕ) (texts : Texts) (a : Answer) → HasPolygons polygons texts file → IsFormAnswer (Dissolve polygons file) texts a → a.status ≡ Done
+polygons_done polygons file texts a has is =
+    let ready = has.ready in
+    ready_work plain file (Dissolve polygons file) texts a refl ready (λ read same work.
+    border_done polygons read.file ready.topology ready.held a (subst (λ (xs : List ℕ). IsLoaded plain xs ready.topology ready.held) same ready.loaded)
+    (all_there (length ready.topology.map.polygons) polygons has.known) work) is
 
 form_done : (f : Form) (texts : Texts) (a : Answer) → CanWork f texts → IsFormAnswer f texts a → a.status ≡ Done
 form_done (Simplify options bound file) texts a ready is = ready_answer options file (λ text bytes. IsSimplified options bound text bytes) (Simplify options bound file) texts a refl (λ read work. work) ready is
 form_done (Layers options bound file) texts a ready is = ready_answer options file (λ text bytes. IsCertified options bound text bytes) (Layers options bound file) texts a refl (λ read work. work) ready is
 form_done (Faces file) texts a ready is = ready_answer plain file (λ text bytes. IsFaced text bytes) (Faces file) texts a refl (λ read work. work) ready is
+form_done (Dissolve polygons file) texts a has is = polygons_done polygons file texts a has is
 form_done (Check options bound file out cert) texts a ready is = absurd ready
 form_done (Make rows cols seed) texts a ready is = absurd ready
 form_done (Demo rows cols seed bound) texts a ready is = absurd ready
@@ -151,6 +201,7 @@ making_done (Simplify options bound file) read a making is = absurd making
 making_done (Layers options bound file) read a making is = absurd making
 making_done (Check options bound file out cert) read a making is = absurd making
 making_done (Faces file) read a making is = absurd making
+making_done (Dissolve polygons file) read a making is = absurd making
 
 -- a work status that is no failed write is no failed read
 not_read_fault : (s : Status) → IsWorkStatus s → s ≢ ReadFault
@@ -179,6 +230,7 @@ making_names_none (Simplify options bound file) making = absurd making
 making_names_none (Layers options bound file) making = absurd making
 making_names_none (Check options bound file out cert) making = absurd making
 making_names_none (Faces file) making = absurd making
+making_names_none (Dissolve polygons file) making = absurd making
 
 -- what is said of the form of the words
 pub makes_by : (words : List (List ℕ)) (g : Form) (s : Status) → Some g ≡ form_of words → (IsMaking g → IsMakingStatus s) → Makes words s

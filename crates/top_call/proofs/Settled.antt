@@ -8,7 +8,7 @@ use Rattle.cert_checker.specs.declared.verdicts.Verdict.TheVariants as verdicts
 use Rattle.top_call.specs.declared.forms.Options.{Options}
 use Rattle.top_call.specs.declared.status.Limit.TheVariants.{Text, Depth, Many}
 use Rattle.top_call.specs.declared.status.Status.{Status}
-use Rattle.top_call.specs.declared.status.Status.TheVariants.{Done, No, Usage, NotUtf8, NotJson, NotTopology, OffProfile, TooLarge, NotArranged, ReadFault, WriteFault, NoMemory, OffWeights}
+use Rattle.top_call.specs.declared.status.Status.TheVariants.{Done, No, Usage, NotUtf8, NotJson, NotTopology, OffProfile, TooLarge, NotArranged, ReadFault, WriteFault, NoMemory, OffWeights, NoPolygon}
 use Rattle.outside_io.specs.Texts.{Texts}
 use Rattle.top_call.specs.declared.status.Role.{Role}
 use Rattle.top_call.specs.Words.{Form, form_of}
@@ -37,6 +37,7 @@ settled_with IsIt tells before now ReadFault bytes result is written (inl h) = a
 settled_with IsIt tells before now WriteFault bytes result is written (inl h) = absurd written
 settled_with IsIt tells before now NoMemory bytes result is written (inl h) = absurd written
 settled_with IsIt tells before now (OffWeights arc at) bytes result is written (inl h) = absurd written
+settled_with IsIt tells before now (NoPolygon k) bytes result is written (inl h) = absurd written
 
 -- nothing was written
 unchanged : (tells : Bool) (before now : List ℕ) → now ≡ before → Wrote tells before now []
@@ -56,6 +57,7 @@ settled_refused IsIt tells before now ReadFault same kind is = absurd kind
 settled_refused IsIt tells before now WriteFault same kind is = absurd kind
 settled_refused IsIt tells before now NoMemory same kind is = tt
 settled_refused IsIt tells before now (OffWeights arc at) same kind is = (refused (OffWeights arc at), is (λ e. cc), refl, unchanged tells before now same)
+settled_refused IsIt tells before now (NoPolygon k) same kind is = (refused (NoPolygon k), is (λ e. cc), refl, unchanged tells before now same)
 
 -- ---- what is said of more answers
 
@@ -73,6 +75,7 @@ settled_as P Q tells before now ReadFault more h = tt
 settled_as P Q tells before now WriteFault more h = (h.0, more h.0 h.1, h.2, h.3)
 settled_as P Q tells before now NoMemory more h = tt
 settled_as P Q tells before now (OffWeights arc at) more h = (h.0, more h.0 h.1, h.2, h.3)
+settled_as P Q tells before now (NoPolygon k) more h = (h.0, more h.0 h.1, h.2, h.3)
 
 -- ---- the forms
 
@@ -167,6 +170,7 @@ reading_settled f texts tells before now (OffProfile k at) same kind past = absu
 reading_settled f texts tells before now (NotArranged meeting) same kind past = absurd kind
 reading_settled f texts tells before now WriteFault same kind past = absurd kind
 reading_settled f texts tells before now (OffWeights arc at) same kind past = absurd kind
+reading_settled f texts tells before now (NoPolygon k) same kind past = absurd kind
 
 -- the answer of the form of the words is that of the words
 pub words_settled : (words : List (List ℕ)) (texts : Texts) (f : Form) (tells : Bool) (before now : List ℕ) (s : Status) → Some f ≡ form_of words → Settles (IsFormAnswer f texts) tells before now s → Settles (IsAnswer words texts) tells before now s

@@ -1,4 +1,4 @@
--- A word spells a number exactly where it is that number's decimal, and words are a form exactly where they spell it.
+-- Words are a form exactly where they spell it.
 use Rattle.std.proofs.Common.{◌≡◌, ℕ, ◌+◌, ◌*◌, ◌-◌, ◌^◌, ◌<◌, ◌≤◌, ◌==◌, ◌&&◌, ◌||◌, ℤ, pos, negsuc, nat_lt, List, [], ◌∷◌, ◌++◌, Option, None, Some, option_map, Bool, true, false, cond, length, get_or, decimal, refl, sym, ap, subst, ◌∙◌, arith, inl, inr, le-leb, leb-true}
 use Rattle.std.proofs.lemmas.Bool.{cases_lt, and_parts}
 use Rattle.std.proofs.lemmas.Bool.Decides.{nat_tests}
@@ -17,105 +17,10 @@ use Rattle.grid_exact.specs.Weights.{Scales, IsWeight}
 use Rattle.top_call.specs.declared.forms.Options.{Options}
 use Rattle.top_call.specs.declared.words.Task.{Task}
 use Rattle.top_call.specs.declared.words.Task.TheVariants as tasks
-use Rattle.top_call.specs.Words.{Form, Simplify, Layers, Check, Faces, Make, Demo, read_digits, between, number_between, bound_of, weights_of, is_name, are_names, named_form, bounded_form, weighed_form, held_form, task_form, faces_form, make_form, demo_form, command_form, form_of}
-use Rattle.top_call.specs.Requests.{digits, hold_words, options_words, spelling, IsBound, AreWeights, IsMakeable, IsWithinLimits, Spells}
-
-kept : {A : Type 0} (b : Bool) (o : Option A) (x : A) → cond b o None ≡ Some x → (b ≡ true) × (o ≡ Some x)
-kept true o x e = (refl, e)
-kept false o x e = absurd (none-some x e)
-
-kept_behind : {A : Type 0} (b : Bool) (o : Option A) (x : A) → cond b None o ≡ Some x → (b ≡ false) × (o ≡ Some x)
-kept_behind true o x e = absurd (none-some x e)
-kept_behind false o x e = (refl, e)
-
-one_of : {A : Type 0} (b : Bool) (o p : Option A) (x : A) → cond b o p ≡ Some x → ((b ≡ true) × (o ≡ Some x)) ⊎ (p ≡ Some x)
-one_of true o p x e = inl (refl, e)
-one_of false o p x e = inr e
-
-mapped_some : {A B : Type 0} (f : A → B) (o : Option A) (y : B) → option_map f o ≡ Some y → (x : A) × (o ≡ Some x) × (f x ≡ y)
-mapped_some f None y e = absurd (none-some y e)
-mapped_some f (Some x) y e = (x, refl, same_Some _ _ e)
-
--- the words are equal where the test says so
-same : (a b : List ℕ) → bytes_eq a b ≡ true → a ≡ b
-same a b e = (bytes_eq-Decides a b).0 e
-
--- ---- digits
-
-in_range : (c : ℕ) → is_ascii_digit c ≡ true → IsInRange 48 57 c
-in_range c is = let parts = and_parts _ _ is in (leb-true 48 c parts.0, leb-true c 57 parts.1)
-
-is_digit : (c : ℕ) → IsInRange 48 57 c → is_ascii_digit c ≡ true
-is_digit c inside = λ i. le-leb 48 c inside.0 i && le-leb c 57 inside.1 i
-
--- what was read are digits, and their number
-digits_read : (m : ℕ) (ds : List ℕ) (n : ℕ) → read_digits m ds ≡ Some n → AllDigits 10 ds × (digits_value_after 10 m ds ≡ n)
-digits_read m [] n e = (tt, same_Some m n e)
-digits_read m (c ∷ cs) n e =
-    let parts = kept (is_ascii_digit c) (read_digits (10 * m + (c - 48)) cs) n e in
-    let value = digit_value_digit c (in_range c parts.0) in
-    let rest = digits_read (10 * m + (c - 48)) cs n parts.1 in
-    let same : m * 10 + digit_value c ≡ 10 * m + (c - 48) = omega (arith, value) in
-    ((omega (arith, value, in_range c parts.0), rest.0), ap (λ k. digits_value_after 10 k cs) same ∙ rest.1)
-
--- digits are read
-read_all : (m : ℕ) (ds : List ℕ) → AllDigits 10 ds → read_digits m ds ≡ Some (digits_value_after 10 m ds)
-read_all m [] all = refl
-read_all m (c ∷ cs) all =
-    let inside = digit_from_value c all.0 in
-    let same : 10 * m + (c - 48) ≡ m * 10 + digit_value c = omega (arith, digit_value_digit c inside) in
-    rw (is_digit c inside) (ap (λ k. read_digits k cs) same ∙ read_all (m * 10 + digit_value c) cs all.1)
-
--- ---- numbers
-
-between_some : (least most : ℕ) (o : Option ℕ) (n : ℕ) → between least most o ≡ Some n → (o ≡ Some n) × (least ≤ n) × (n ≤ most)
-between_some least most None n e = absurd (none-some n e)
-between_some least most (Some k) n e =
-    let parts = cond_some (nat_le least k && nat_le k most) k n e in
-    let tests = and_parts (nat_le least k) (nat_le k most) parts.0 in
-    (ap Some parts.1, omega (arith, parts.1, leb-true least k tests.0), omega (arith, parts.1, leb-true k most tests.1))
-
-between_found : (least most n : ℕ) → least ≤ n → n ≤ most → between least most (Some n) ≡ Some n
-between_found least most n low high = rw (le-leb least n low, le-leb n most high) refl
-
-some_digit : (n first : ℕ) → ((n == 0) || (nat_lt 1 n && (first == 48))) ≡ false → 0 < n
-some_digit n first e = grind (arith, nat_tests)
-
-one_digit : (n first : ℕ) → ((n == 0) || (nat_lt 1 n && (first == 48))) ≡ false → first ≡ 48 → n ≡ 1
-one_digit n first e zero_first = grind (arith, nat_tests)
-
-no_leading_zero : (n first : ℕ) → 0 < n → (first ≡ 48 → n ≡ 1) → ((n == 0) || (nat_lt 1 n && (first == 48))) ≡ false
-no_leading_zero n first some alone = grind (arith, nat_tests)
-
--- a word that spells a number is its decimal
-number_spelled : (least most : ℕ) (word : List ℕ) (n : ℕ) → most < 2 ^ 64 → number_between least most word ≡ Some n → word ≡ decimal n
-number_spelled least most word n small e =
-    let parts = kept_behind _ (between least most (read_digits 0 word)) n e in
-    let number = between_some least most (read_digits 0 word) n parts.1 in
-    let digits = digits_read 0 word n number.0 in
-    let some = some_digit (length word) (get_or word 0 0) parts.0 in
-    let alone = one_digit (length word) (get_or word 0 0) parts.0 in
-    let fits : digits_value 10 word < 2 ^ 64 = omega (arith, digits.1, number.2) in
-    sym (decimal-digits_value (numerals_by_value _ tells_digits) word digits.0 some alone fits) ∙ ap decimal digits.1
-
--- the decimal of a number spells it
-number_found : (least most n : ℕ) → most < 2 ^ 64 → least ≤ n → n ≤ most → number_between least most (decimal n) ≡ Some n
-number_found least most n small low high =
-    let fits : n < 2 ^ 64 = omega arith in
-    let numeral = decimal_is_IsNumeral n fits in
-    let alone : get_or (decimal n) 0 0 ≡ 48 → length (decimal n) ≡ 1 = λ zero_first.
-    elim (cases_lt n 10) [
-      | inl one ↦ ap length (decimal_digit n one)
-      | inr more ↦ absurd (omega (arith, zero_first, first_decimal n (omega arith) fits))
-    ] in
-    rw (no_leading_zero (length (decimal n)) (get_or (decimal n) 0 0) numeral.0.0 alone, read_all 0 (decimal n) numeral.0.1, numeral.1) (between_found least most n low high)
-
--- the number that a word spells is within its limits
-number_in_range : (least most : ℕ) (word : List ℕ) (n : ℕ) → number_between least most word ≡ Some n → (least ≤ n) × (n ≤ most)
-number_in_range least most word n e =
-    let parts = kept_behind _ (between least most (read_digits 0 word)) n e in
-    let number = between_some least most (read_digits 0 word) n parts.1 in
-    (number.1, number.2)
+use Rattle.top_call.specs.Words.{Form, Simplify, Layers, Check, Faces, Make, Demo, Dissolve, read_digits, between, number_between, bound_of, weights_of, is_name, are_names, named_form, bounded_form, weighed_form, held_form, task_form, faces_form, make_form, demo_form, dissolve_form, is_list, polygons_in, command_form, form_of}
+use Rattle.top_call.specs.Requests.{digits, hold_words, options_words, list_word, spelling, IsBound, AreWeights, IsMakeable, IsWithinLimits, Spells}
+use Rattle.top_call.proofs.Numbers.{kept, kept_behind, one_of, mapped_some, same, number_spelled, number_found, number_in_range}
+use Rattle.top_call.proofs.ListWords.{list_made, list_found, polygons_found}
 
 -- ---- bounds and weights
 
@@ -292,6 +197,17 @@ demo_made (r ∷ c ∷ s ∷ b ∷ []) f e =
     (subst (λ (g : Form). IsSpelled (codes "demo" ∷ decimal x ∷ decimal y ∷ decimal z ∷ digits u ∷ []) g) (same_Some _ _ e_u) (record { spelled = refl; limits = (makeable r c s x y z x_is y_is z_is, bound.1) }))
 demo_made (r ∷ c ∷ s ∷ b ∷ t ∷ words) f e = absurd (none-some f e)
 
+dissolve_made : (words : List (List ℕ)) (f : Form) → dissolve_form words ≡ Some f → IsSpelled (codes "dissolve" ∷ words) f
+dissolve_made [] f e = absurd (none-some f e)
+dissolve_made (list ∷ []) f e = absurd (none-some f e)
+dissolve_made (list ∷ file ∷ []) f e =
+    let parts = kept (is_list list && is_name file) (Some (Dissolve (polygons_in list) file)) f e in
+    let tests = and_parts (is_list list) (is_name file) parts.0 in
+    let made = list_made list tests.0 in
+    subst (λ (g : Form). IsSpelled (codes "dissolve" ∷ list ∷ file ∷ []) g) (same_Some _ _ parts.1)
+    (record { spelled = ap (λ (word : List ℕ). codes "dissolve" ∷ word ∷ file ∷ []) made.spelled; limits = (made.polygons, tests.1) })
+dissolve_made (a ∷ b ∷ c ∷ words) f e = absurd (none-some f e)
+
 -- ---- all words
 
 command_made : (command : List ℕ) (words : List (List ℕ)) (f : Form) → command_form command words ≡ Some f → IsSpelled (command ∷ words) f
@@ -308,7 +224,10 @@ command_made command words f e =
               | inl h ↦ rw (same command (codes "make") h.0) (make_made words f h.1)
               | inr e5 ↦ elim (one_of (bytes_eq command (codes "demo")) _ _ f e5) [
                 | inl h ↦ rw (same command (codes "demo") h.0) (demo_made words f h.1)
-                | inr e6 ↦ absurd (none-some f e6)
+                | inr e6 ↦ elim (one_of (bytes_eq command (codes "dissolve")) _ _ f e6) [
+                  | inl h ↦ rw (same command (codes "dissolve") h.0) (dissolve_made words f h.1)
+                  | inr e7 ↦ absurd (none-some f e7)
+                ]
               ]
             ]
           ]
@@ -332,6 +251,9 @@ task_found task false None bound names w b =
 task_found task true (Some s) bound names w b = rw (weights_found s w) (bounded_found task (record { hold = true; weights = Some s }) bound names b)
 task_found task false (Some s) bound names w b = rw (weights_found s w) (bounded_found task (record { hold = false; weights = Some s }) bound names b)
 
+dissolve_by : (list name : Bool) (polygons file : List ℕ) → list ≡ true → name ≡ true → cond (list && name) (Some (Dissolve polygons file)) None ≡ Some (Dissolve polygons file)
+dissolve_by list name polygons file h k = rw (h, k) refl
+
 form_found : (f : Form) → IsWithinLimits f → form_of (spelling f) ≡ Some f
 form_found (Simplify options bound file) h = task_found tasks.Simplify options.hold options.weights bound (file ∷ []) h.0 h.1 ∙ rw h.2 refl
 form_found (Layers options bound file) h = task_found tasks.Layers options.hold options.weights bound (file ∷ []) h.0 h.1 ∙ rw h.2 refl
@@ -350,6 +272,9 @@ form_found (Demo rows cols seed bound) h =
       number_found 0 65536 seed (omega arith) (omega arith) h.0.small_seed,
       bound_found bound h.1,
     ) refl
+form_found (Dissolve polygons file) h =
+    dissolve_by (is_list (list_word polygons)) (is_name file) (polygons_in (list_word polygons)) file (list_found polygons h.0) h.1
+    ∙ ap (λ (ns : List ℕ). Some (Dissolve ns file)) (polygons_found polygons h.0)
 
 -- the form of words is the one that they spell
 pub form_spells : (words : List (List ℕ)) (f : Option Form) → f ≡ form_of words → Spells words f

@@ -1,5 +1,5 @@
 -- The answer to the words of a command line over the texts that are held, in the order in which it is found: words, texts, map, work.
-use Rattle.std.specs.Prelude.{◌≡◌, ◌≢◌, ℕ, ℤ, Bool, true, false, List, [], ◌++◌, length, sum_by, Option, None, Some, codes, decimal}
+use Rattle.std.specs.Prelude.{◌≡◌, ◌≢◌, ℕ, ℤ, Bool, true, false, List, [], ◌∷◌, ◌++◌, nat_lt, if◌then◌else◌, length, sum_by, Option, None, Some, codes, decimal}
 use Rattle.std.specs.List.{flat_map, range_with_len}
 use Rattle.grid_exact.specs.Weights.{Scales}
 use Rattle.outside_io.specs.Texts.{Texts}
@@ -13,6 +13,8 @@ use Rattle.topo_reader.specs.Reads.{TopologyRead}
 use Rattle.topo_writer.specs.Splice.{spliced}
 use Rattle.topo_writer.specs.ArcsText.{arcs_text_of}
 use Rattle.map_gen.specs.Make.{made}
+use Rattle.dissolve.specs.Border.{IsBorder}
+use Rattle.dissolve.specs.Texts.{rings_text}
 use Rattle.face_parity.specs.Lines.{line_of}
 use Rattle.cert_format.specs.Certificate.{Content, IsCertificate, certificate_text, content}
 use Rattle.chain_replace.specs.Run.{Terms, IsOutcome}
@@ -26,8 +28,8 @@ use Rattle.top_call.specs.declared.forms.Options.{Options}
 use Rattle.top_call.specs.declared.status.Limit.TheVariants.{Text}
 use Rattle.top_call.specs.declared.status.Role.{Role}
 use Rattle.top_call.specs.declared.status.Status.{Status}
-use Rattle.top_call.specs.declared.status.Status.TheVariants.{Done, No, Usage, TooLarge, ReadFault}
-use Rattle.top_call.specs.Words.{Form, Simplify, Layers, Check, Faces, Make, Demo, form_of}
+use Rattle.top_call.specs.declared.status.Status.TheVariants.{Done, No, Usage, TooLarge, ReadFault, NoPolygon}
+use Rattle.top_call.specs.Words.{Form, Simplify, Layers, Check, Faces, Make, Demo, Dissolve, form_of}
 use Rattle.top_call.specs.Reading.{Read, named, AreRead, AreShort, IsFirstPast, IsFirstUnheld}
 use Rattle.top_call.specs.Maps.{IsLoaded, IsRefusal, scales_of}
 use Rattle.top_call.specs.Verdicts.{verdict_line}
@@ -124,6 +126,32 @@ pub record IsDemoed (rows cols seed : ℕ) (bound : ℤ) (bytes : List ℕ) : Ty
   pub run : IsRun plain bound (made rows cols seed) topology held after records
   pub written : bytes ≡ demo_text after (length run.outcome.refs) (position_count topology.map)
 
+-- the first of these numbers that no polygon has where there are so many, none where each has one
+abbrev pub first_missing : ℕ → List ℕ → Option ℕ
+first_missing count [] = None
+first_missing count (k ∷ ks) = if nat_lt k count then first_missing count ks else Some k
+
+-- the text of the border of these polygons
+pub record IsBorderText (m : Map) (polygons bytes : List ℕ) : Type 0 where
+  pub rings : List (List ℤ)
+  pub border : IsBorder m polygons rings
+  pub written : bytes ≡ rings_text rings
+
+-- the map has each of these polygons, and this is the text of their border
+pub record IsDissolved (polygons text bytes : List ℕ) : Type 0 where
+  pub topology : TopologyRead
+  pub held : List ℕ
+  pub loaded : IsLoaded plain text topology held
+  pub known : first_missing (length topology.map.polygons) polygons ≡ None
+  pub is_text : IsBorderText topology.map polygons bytes
+
+-- this is the first of these polygons that the map does not have
+pub record IsMissing (polygons text : List ℕ) (polygon : ℕ) : Type 0 where
+  pub topology : TopologyRead
+  pub held : List ℕ
+  pub loaded : IsLoaded plain text topology held
+  pub first : first_missing (length topology.map.polygons) polygons ≡ Some polygon
+
 -- ---- what `check` finds
 
 -- the bytes are the text of this certificate
@@ -178,6 +206,12 @@ pub data IsCheckAnswer (options : Options) (bound : ℤ) (read : Read) (a : Answ
   RefusedFile : (s : Status) → IsRefusal options read.file s → a ≡ refused s → IsCheckAnswer options bound read a
   Told : (verdict : Verdict) → IsChecked options bound read verdict → a ≡ told verdict → IsCheckAnswer options bound read a
 
+-- the text of FILE is refused, or its map does not have each of the polygons, or their border is written
+pub data IsDissolveAnswer (polygons text : List ℕ) (a : Answer) : Type 0 where
+  RefusedMap : (s : Status) → IsRefusal plain text s → a ≡ refused s → IsDissolveAnswer polygons text a
+  Missed : (polygon : ℕ) → IsMissing polygons text polygon → a ≡ refused (NoPolygon polygon) → IsDissolveAnswer polygons text a
+  Dissolved : (bytes : List ℕ) → IsDissolved polygons text bytes → a ≡ done bytes → IsDissolveAnswer polygons text a
+
 -- the answer of a form over the texts that were read
 abbrev pub IsWorkAnswer : Form → Read → Answer → Type 0
 IsWorkAnswer (Simplify options bound file) read a = IsMapAnswer options read.file (IsSimplified options bound read.file) a
@@ -186,6 +220,7 @@ IsWorkAnswer (Check options bound file out cert) read a = IsCheckAnswer options 
 IsWorkAnswer (Faces file) read a = IsMapAnswer plain read.file (IsFaced read.file) a
 IsWorkAnswer (Make rows cols seed) read a = a ≡ done (made rows cols seed)
 IsWorkAnswer (Demo rows cols seed bound) read a = IsMadeAnswer (IsDemoed rows cols seed bound) a
+IsWorkAnswer (Dissolve polygons file) read a = IsDissolveAnswer polygons read.file a
 
 -- ---- the whole
 

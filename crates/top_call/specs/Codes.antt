@@ -1,7 +1,7 @@
 -- The number with which the program ends.
 use Rattle.std.specs.Prelude.{ℕ}
 use Rattle.top_call.specs.declared.status.Status.{Status}
-use Rattle.top_call.specs.declared.status.Status.TheVariants.{Done, No, Usage, NotUtf8, NotJson, NotTopology, OffProfile, TooLarge, NotArranged, ReadFault, WriteFault, NoMemory, OffWeights}
+use Rattle.top_call.specs.declared.status.Status.TheVariants.{Done, No, Usage, NotUtf8, NotJson, NotTopology, OffProfile, TooLarge, NotArranged, ReadFault, WriteFault, NoMemory, OffWeights, NoPolygon}
 
 abbrev pub code_of : Status → ℕ
 code_of Done = 0
@@ -17,3 +17,4 @@ code_of ReadFault = 8
 code_of WriteFault = 9
 code_of NoMemory = 10
 code_of (OffWeights arc position) = 13
+code_of (NoPolygon polygon) = 14

@@ -5,14 +5,14 @@ use Rattle.outside_io.specs.Texts.{Texts, AppendsPrefix}
 use Rattle.top_call.specs.declared.status.Role.{Role}
 use Rattle.top_call.specs.declared.status.Limit.TheVariants.{Text, Depth, Many}
 use Rattle.top_call.specs.declared.status.Status.{Status}
-use Rattle.top_call.specs.declared.status.Status.TheVariants.{Done, No, NotUtf8, NotJson, NotTopology, OffProfile, TooLarge, NotArranged, ReadFault, WriteFault, NoMemory, OffWeights}
+use Rattle.top_call.specs.declared.status.Status.TheVariants.{Done, No, NotUtf8, NotJson, NotTopology, OffProfile, TooLarge, NotArranged, ReadFault, WriteFault, NoMemory, OffWeights, NoPolygon}
 use Rattle.top_call.specs.Words.{Form}
 use Rattle.top_call.specs.Reading.{Named, named, limit_of, AreHeld, IsFirstPast}
 use Rattle.top_call.specs.Answers.{Answer}
 
 -- ---- statuses
 
--- the statuses with which a text is refused, or memory is wanting
+-- the statuses with which a text is refused, or its map does not have a polygon, or memory is wanting
 abbrev pub IsMapStatus : Status → Type 0
 IsMapStatus (NotUtf8 at) = Unit {0}
 IsMapStatus (NotJson at) = Unit {0}
@@ -23,6 +23,7 @@ IsMapStatus (TooLarge (Many what at)) = Unit {0}
 IsMapStatus (NotArranged meeting) = Unit {0}
 IsMapStatus NoMemory = Unit {0}
 IsMapStatus (OffWeights arc at) = Unit {0}
+IsMapStatus (NoPolygon polygon) = Unit {0}
 IsMapStatus status = ⊥
 
 -- the bytes of a form were written

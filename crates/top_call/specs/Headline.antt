@@ -1,7 +1,9 @@
 -- What is promised of a run: the text that `simplify` writes is faithful to the one that it was given, a text that loads is worked on, what
--- was written for it is judged and found right, and `make` and `demo` refuse nothing.
-use Rattle.std.specs.Prelude.{◌≡◌, ◌⊎◌, ◌-◌, ◌<◌, ◌≤◌, ℕ, ℤ, Bool, false, List, ◌++◌, length, take, get_or, Some}
+-- was written for it is judged and found right, what `dissolve` writes is a border, and `make` and `demo` refuse nothing.
+use Rattle.std.specs.Prelude.{◌≡◌, ◌≢◌, ◌↔◌, ◌⊎◌, ◌-◌, ◌<◌, ◌≤◌, ℕ, ℤ, Bool, false, List, ◌++◌, All, AllPairs, Contains, length, take, get_or, Some}
+use Rattle.grid_exact.specs.Geometry.{Place}
 use Rattle.grid_exact.specs.Paths.{Certifies}
+use Rattle.arc_map.specs.Arcs.{is_inside_of}
 use Rattle.arc_map.specs.Map.{Map}
 use Rattle.arc_map.specs.Records.{Record}
 use Rattle.arc_map.specs.Work.{Work, work_of}
@@ -10,13 +12,17 @@ use Rattle.topo_reader.specs.Reads.{TopologyRead}
 use Rattle.chain_replace.specs.Laws.{KeepsFaces}
 use Rattle.chain_replace.specs.Run.{Terms, IsAllowedIn, last_of, IsRecordOf, AreReplaced, IsOutcome}
 use Rattle.chain_replace.specs.Thinned.{ThinsArcs}
+use Rattle.dissolve.specs.Odd.{named_arcs, odd_arcs}
+use Rattle.dissolve.specs.Border.{IsBorder}
+use Rattle.dissolve.specs.Closed.{IsClosed, arcs_used}
+use Rattle.dissolve.specs.Texts.{rings_text}
 use Rattle.cert_checker.specs.declared.verdicts.Reason.{Reason}
 use Rattle.cert_checker.specs.declared.verdicts.Verdict.TheVariants.{Yes}
 use Rattle.top_call.specs.declared.forms.Options.{Options}
 use Rattle.top_call.specs.declared.status.Role.TheVariants.{File, Out, Cert}
 use Rattle.top_call.specs.declared.status.Status.{Status}
 use Rattle.top_call.specs.declared.status.Status.TheVariants.{Done, No, WriteFault, NoMemory}
-use Rattle.top_call.specs.Words.{Form, Simplify, Layers, Check, Faces, Make, Demo, form_of}
+use Rattle.top_call.specs.Words.{Form, Simplify, Layers, Check, Faces, Make, Demo, Dissolve, form_of}
 use Rattle.top_call.specs.Reading.{limit_of, IsWithin}
 use Rattle.top_call.specs.Maps.{IsLoaded}
 use Rattle.top_call.specs.Requests.{IsWithinLimits}
@@ -72,11 +78,17 @@ pub record IsReady (options : Options) (texts : Texts) (file : List ℕ) : Type 
   pub held : List ℕ
   pub loaded : IsLoaded options text topology held
 
+-- FILE is ready, and its map has each of these polygons
+pub record HasPolygons (polygons : List ℕ) (texts : Texts) (file : List ℕ) : Type 0 where
+  pub ready : IsReady plain texts file
+  pub known : All (λ k. k < length ready.topology.map.polygons) polygons
+
 -- the form works on the map of FILE alone, and FILE is ready
 abbrev pub CanWork : Form → Texts → Type 0
 CanWork (Simplify options bound file) texts = IsReady options texts file
 CanWork (Layers options bound file) texts = IsReady options texts file
 CanWork (Faces file) texts = IsReady plain texts file
+CanWork (Dissolve polygons file) texts = HasPolygons polygons texts file
 CanWork f texts = ⊥
 
 -- where FILE is ready, its work is done, or memory was wanting
@@ -138,6 +150,32 @@ pub record FacesAlike (options : Options) (texts : Texts) (file : List ℕ) (tel
 abbrev pub KeepsLines : List (List ℕ) → Texts → Bool → List ℕ → List ℕ → Status → Type 0
 KeepsLines words texts tells before now result =
     (options : Options) (bound : ℤ) (file out : List ℕ) → form_of words ≡ Some (Faces out) → IsWrittenFor options bound texts file out → FacesAlike options texts file tells before now result
+
+-- ---- what is written of polygons that are dissolved
+
+-- The bytes are the border of these polygons of the map of a text.
+pub record IsBorderOf (polygons text bytes : List ℕ) : Type 0 where
+  -- the text is that of this topology, which is arranged and has each of the polygons
+  pub topology : TopologyRead
+  pub held : List ℕ
+  pub loaded : IsLoaded plain text topology held
+  pub known : All (λ k. k < length topology.map.polygons) polygons
+  -- the rings of the border are written
+  pub rings : List (List ℤ)
+  pub border : IsBorder topology.map polygons rings
+  pub written : bytes ≡ rings_text rings
+  -- each arc begins where the one before ends, and each ring ends where it begins
+  pub closed : All (IsClosed topology.map) rings
+  -- the arcs used are those with an edge that the polygons name an odd number of times in sum, each once
+  pub used : (k : ℕ) → Contains (arcs_used rings) k ↔ Contains (odd_arcs topology.map polygons) k
+  pub once : AllPairs (λ j k. j ≢ k) (arcs_used rings)
+  -- from each place the rings are crossed as often, modulo 2, as these polygons in sum
+  pub crossed : (p : Place) → is_inside_of p topology.map.arcs (arcs_used rings) ≡ is_inside_of p topology.map.arcs (named_arcs topology.map polygons)
+
+-- What `dissolve` writes of a text that is held, where it is done, is the border of the polygons.
+abbrev pub Borders : List (List ℕ) → Texts → List ℕ → List ℕ → Status → Type 0
+Borders words texts before now result =
+    (polygons file text bytes : List ℕ) → form_of words ≡ Some (Dissolve polygons file) → text_of texts file ≡ Some text → result ≡ Done → now ≡ before ++ bytes → IsBorderOf polygons text bytes
 
 -- ---- the forms that make a coverage
 

@@ -14,7 +14,7 @@ use Rattle.top_call.specs.declared.status.Limit.TheVariants.{Text, Depth, Many}
 use Rattle.top_call.specs.declared.status.Meeting.{Meeting}
 use Rattle.top_call.specs.declared.status.Meeting.TheVariants.{Edges, PointOnArc}
 use Rattle.top_call.specs.declared.status.Status.{Status}
-use Rattle.top_call.specs.declared.status.Status.TheVariants.{Done, No, Usage, NotUtf8, NotJson, NotTopology, OffProfile, TooLarge, NotArranged, ReadFault, WriteFault, NoMemory, OffWeights}
+use Rattle.top_call.specs.declared.status.Status.TheVariants.{Done, No, Usage, NotUtf8, NotJson, NotTopology, OffProfile, TooLarge, NotArranged, ReadFault, WriteFault, NoMemory, OffWeights, NoPolygon}
 
 abbrev pub shape_words : ShapeKind → List ℕ
 shape_words shapes.NotObject = codes "not an object"
@@ -63,8 +63,11 @@ meeting_line (PointOnArc point e) = point_line point e
 abbrev pub off_weights_line : ℕ → ℕ → List ℕ
 off_weights_line arc position = codes "weights take arc " ++ decimal arc ++ codes " position " ++ decimal position ++ codes " off the grid\n"
 
+abbrev pub no_polygon_line : ℕ → List ℕ
+no_polygon_line polygon = codes "no polygon " ++ decimal polygon ++ codes "\n"
+
 unfoldable pub usage_line : List ℕ
-usage_line = codes "usage: simplify [--hold] [--weights WX WY] E FILE, layers [--hold] [--weights WX WY] E FILE, check [--hold] [--weights WX WY] E FILE OUT CERT, faces FILE, make R C SEED, demo R C SEED E\n"
+usage_line = codes "usage: simplify [--hold] [--weights WX WY] E FILE, layers [--hold] [--weights WX WY] E FILE, check [--hold] [--weights WX WY] E FILE OUT CERT, faces FILE, make R C SEED, demo R C SEED E, dissolve LIST FILE\n"
 
 -- the line that tells a status; `Done` and `No` have none
 abbrev pub message_of : Status → List ℕ
@@ -81,3 +84,4 @@ message_of ReadFault = codes "reading failed\n"
 message_of WriteFault = codes "writing failed\n"
 message_of NoMemory = codes "no memory\n"
 message_of (OffWeights arc position) = off_weights_line arc position
+message_of (NoPolygon polygon) = no_polygon_line polygon

@@ -1,11 +1,12 @@
 -- A request, and the words that make it.
-use Rattle.std.specs.Prelude.{◌≡◌, ◌≢◌, ◌≤◌, ◌^◌, ◌≤ℤ◌, ℤ, pos, unsigned_abs, ℕ, Bool, true, false, List, [], ◌∷◌, ◌++◌, map, Option, Some, None, String, string_bytes, codes, decimal, IsTrue}
+use Rattle.std.specs.Prelude.{◌≡◌, ◌≢◌, ◌≤◌, ◌+◌, ◌^◌, ◌≤ℤ◌, ℤ, pos, unsigned_abs, ℕ, Bool, true, false, List, [], ◌∷◌, ◌++◌, length, map, Option, Some, None, String, string_bytes, codes, decimal, IsTrue}
 use Rattle.std.specs.declared.alloc.Global.{Global}
+use Rattle.std.specs.List.{join_with_byte}
 use Rattle.grid_exact.specs.Weights.{Scales, IsWeight}
 use Rattle.top_call.specs.declared.forms.Options.{Options}
 use Rattle.top_call.specs.declared.forms.Request.{Request}
 use Rattle.top_call.specs.declared.forms.Request.TheVariants as requests
-use Rattle.top_call.specs.Words.{Form, Simplify, Layers, Check, Faces, Make, Demo, is_name, are_names}
+use Rattle.top_call.specs.Words.{Form, Simplify, Layers, Check, Faces, Make, Demo, Dissolve, is_name, are_names, polygons_in}
 
 -- the bytes of each word
 abbrev pub bytes_of : List (String Global) → List (List ℕ)
@@ -19,6 +20,7 @@ form (requests.Check options bound file out cert) = Check options bound file.now
 form (requests.Faces file) = Faces file.now
 form (requests.Make rows cols seed) = Make rows cols seed
 form (requests.Demo rows cols seed bound) = Demo rows cols seed bound
+form (requests.Dissolve list file) = Dissolve (polygons_in list.now) file.now
 
 -- ---- limits
 
@@ -40,6 +42,17 @@ pub record IsMakeable (rows cols seed : ℕ) : Type 0 where
   pub few_cols : cols ≤ 100
   pub small_seed : seed ≤ 65536
 
+-- the numbers rise strictly, the first is at least `least`, and each is at most 1048575
+abbrev pub AreRisingFrom : ℕ → List ℕ → Type 0
+AreRisingFrom least [] = Unit {0}
+AreRisingFrom least (n ∷ ns) = (least ≤ n) × (n ≤ 1048575) × AreRisingFrom (n + 1) ns
+
+-- 1 to 1,000 numbers of polygons, strictly rising
+pub record ArePolygons (polygons : List ℕ) : Type 0 where
+  pub some : 1 ≤ length polygons
+  pub few : length polygons ≤ 1000
+  pub rising : AreRisingFrom 0 polygons
+
 -- the numbers and names of a form are within their limits
 abbrev pub IsWithinLimits : Form → Type 0
 IsWithinLimits (Simplify options bound file) = AreWeights options.weights × IsBound bound × IsTrue (is_name file)
@@ -48,6 +61,7 @@ IsWithinLimits (Check options bound file out cert) = AreWeights options.weights 
 IsWithinLimits (Faces file) = IsTrue (is_name file)
 IsWithinLimits (Make rows cols seed) = IsMakeable rows cols seed
 IsWithinLimits (Demo rows cols seed bound) = IsMakeable rows cols seed × IsBound bound
+IsWithinLimits (Dissolve polygons file) = ArePolygons polygons × IsTrue (is_name file)
 
 -- ---- the words of a form
 
@@ -66,6 +80,10 @@ weights_words (Some w) = codes "--weights" ∷ digits w.x ∷ digits w.y ∷ []
 abbrev pub options_words : Options → List (List ℕ)
 options_words options = hold_words options.hold ++ weights_words options.weights
 
+-- numbers in decimal, with a comma between each two
+abbrev pub list_word : List ℕ → List ℕ
+list_word numbers = join_with_byte 44 (map decimal numbers)
+
 -- the words that spell a form
 abbrev pub spelling : Form → List (List ℕ)
 spelling (Simplify options bound file) = codes "simplify" ∷ (options_words options ++ digits bound ∷ file ∷ [])
@@ -74,6 +92,7 @@ spelling (Check options bound file out cert) = codes "check" ∷ (options_words 
 spelling (Faces file) = codes "faces" ∷ file ∷ []
 spelling (Make rows cols seed) = codes "make" ∷ decimal rows ∷ decimal cols ∷ decimal seed ∷ []
 spelling (Demo rows cols seed bound) = codes "demo" ∷ decimal rows ∷ decimal cols ∷ decimal seed ∷ digits bound ∷ []
+spelling (Dissolve polygons file) = codes "dissolve" ∷ list_word polygons ∷ file ∷ []
 
 -- the words spell this form, which is within its limits, or they spell none that is
 abbrev pub Spells : List (List ℕ) → Option Form → Type 0

@@ -1,7 +1,9 @@
 -- What the words of a command line ask for.
 use Rattle.std.specs.Prelude.{ℕ, ◌+◌, ◌-◌, ◌*◌, ◌^◌, ℤ, pos, Bool, true, false, not, List, [], ◌∷◌, ◌&&◌, ◌||◌, ◌==◌, nat_le, nat_lt, length, slice_index, if◌then◌else◌, Option, Some, None, codes, option_and_then}
+use Rattle.std.specs.Borrow.{Bor}
 use Rattle.std.specs.Char.{is_ascii_digit}
-use Rattle.std.specs.Option.{option_map}
+use Rattle.std.specs.List.{slice_split}
+use Rattle.std.specs.Option.{option_map, option_map_or}
 use Rattle.std.specs.Str.{bytes_eq}
 use Rattle.grid_exact.specs.Weights.{Scales}
 use Rattle.top_call.specs.declared.forms.Options.{Options}
@@ -32,6 +34,44 @@ bound_of word = option_map pos (number_between 0 (2 ^ 30) word)
 abbrev pub weights_of : List ℕ → List ℕ → Option Scales
 weights_of wx wy = option_and_then (λ x. option_map (λ y. record { x = pos x; y = pos y }) (number_between 1 65536 wy)) (number_between 1 65536 wx)
 
+-- ---- lists of polygons
+
+-- the words between the commas of a list
+abbrev pub words_between : List ℕ → List (List ℕ)
+words_between list = slice_split (λ b. b == 44) list
+
+-- the words of what is left of a list, none where nothing is
+abbrev pub words_left : Option (Bor (List ℕ)) → List (List ℕ)
+words_left rest = option_map_or (λ list. words_between list.now) rest []
+
+-- there is a number, and it passes the test
+abbrev pub is_some_number : (ℕ → Bool) → Option ℕ → Bool
+is_some_number test None = false
+is_some_number test (Some n) = test n
+
+-- the words spell numbers of polygons that rise from `least` on, and are no more than there is room for
+abbrev pub are_rising : ℕ → ℕ → List (List ℕ) → Bool
+are_rising least room [] = true
+are_rising least room (word ∷ words) = is_some_number (λ n. nat_lt 0 room && are_rising (n + 1) (room - 1) words) (number_between least 1048575 word)
+
+-- a list of 1 to 1,000 rising numbers of polygons
+abbrev pub is_list : List ℕ → Bool
+is_list list = are_rising 0 1000 (words_between list)
+
+-- the number, if there is one, before others
+abbrev pub number_then : Option ℕ → List ℕ → List ℕ
+number_then None numbers = numbers
+number_then (Some n) numbers = n ∷ numbers
+
+-- the numbers of polygons that words spell
+abbrev pub numbers_in : List (List ℕ) → List ℕ
+numbers_in [] = []
+numbers_in (word ∷ words) = number_then (number_between 0 1048575 word) (numbers_in words)
+
+-- the numbers of polygons that a list has
+abbrev pub polygons_in : List ℕ → List ℕ
+polygons_in list = numbers_in (words_between list)
+
 -- ---- names of texts
 
 abbrev pub is_name : List ℕ → Bool
@@ -57,6 +97,7 @@ pub data Form : Type 0 where
   Faces : (file : List ℕ) → Form
   Make : (rows cols seed : ℕ) → Form
   Demo : (rows cols seed : ℕ) (bound : ℤ) → Form
+  Dissolve : (polygons file : List ℕ) → Form
 
 -- what stands behind E: FILE, or FILE OUT CERT
 abbrev pub named_form : Task → Options → ℤ → List (List ℕ) → Option Form
@@ -106,6 +147,11 @@ demo_form (rows ∷ cols ∷ seed ∷ bound ∷ []) =
     (bound_of bound)) (number_between 0 65536 seed)) (number_between 1 100 cols)) (number_between 1 100 rows)
 demo_form words = None
 
+-- `dissolve LIST FILE`
+abbrev pub dissolve_form : List (List ℕ) → Option Form
+dissolve_form (list ∷ file ∷ []) = if is_list list && is_name file then Some (Dissolve (polygons_in list) file) else None
+dissolve_form words = None
+
 -- the form of the words behind a command
 abbrev pub command_form : List ℕ → List (List ℕ) → Option Form
 command_form command words =
@@ -115,6 +161,7 @@ command_form command words =
     else if bytes_eq command (codes "faces") then faces_form words
     else if bytes_eq command (codes "make") then make_form words
     else if bytes_eq command (codes "demo") then demo_form words
+    else if bytes_eq command (codes "dissolve") then dissolve_form words
     else None
 
 -- the form of the words

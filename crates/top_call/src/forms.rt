@@ -26,4 +26,7 @@ pub enum Request<'a> {
     Make(u32, u32, u32),
     /// Make such a coverage, thin it within a bound, and write what came of it in numbers.
     Demo(u32, u32, u32, Bound),
+    /// Write the border of the polygons whose numbers a word lists, of the map of a text: the word,
+    /// and the name of the text.
+    Dissolve(&'a str, &'a str),
 }

@@ -4,10 +4,12 @@
 
 mod checking;
 mod demo;
+mod dissolving;
 mod faces;
 mod forms;
 mod judged_laws;
 mod laws;
+mod lists;
 mod loading;
 mod message;
 mod parts;

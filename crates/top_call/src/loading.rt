@@ -2,6 +2,7 @@
 ghost use Rattle.std.specs.Prelude.{◌≡◌, ◌≤◌, ◌^◌, ◌⊎◌, pos, None, All, IfOk, IfErr, MatchOption, length};
 ghost use Rattle.grid_exact.specs.Geometry.{Place};
 ghost use Rattle.grid_exact.specs.Weights.{StaysOnGrid, IsFirstOff};
+ghost use Rattle.topo_reader.specs.Ends.{HasEvenEnds};
 ghost use Rattle.topo_reader.specs.TopologyIs.{topology_read, LiesIn};
 ghost use Rattle.top_call.specs.Maps.{HasTopology, IsLoaded, IsRefused, IsUnarranged, AreHeldBeside, IsTextRefusal, IsFirstOffIn, scales_of, ones, scan_status, fault_status, check_status, topology_in};
 ghost use Rattle.top_call.specs.Endings.{IsMapStatus};
@@ -63,6 +64,8 @@ fn topology_in(alloc: Global, text: &[u8]) -> Result<Topology, Status>
     requires { length text.now ≤ 2 ^ 26 }
     ensures read { IfOk result (λ topology. HasTopology text.now (topology_read topology)) }
     ensures span { IfOk result (λ topology. LiesIn text.now topology.arcs_at) }
+    ensures even { IfOk result
+        (λ topology. All (HasEvenEnds topology.map.arcs) topology.map.polygons) }
     ensures refused { IfErr result (λ s. (s ≡ Status.NoMemory) ⊎ IsTextRefusal text.now s) }
 {
     let scanned = match scan(alloc, text) {
@@ -147,6 +150,9 @@ pub fn load(alloc: Global, options: &Options, text: &[u8]) -> Result<Loaded, Sta
     ensures loaded { IfOk result (λ loaded. IsLoaded options.now text.now (topology_in loaded)
         loaded.partly.held) }
     ensures span { IfOk result (λ loaded. LiesIn text.now loaded.arcs_at) }
+    // In each polygon each position is an even number of times an end of an arc.
+    ensures even { IfOk result (λ loaded.
+        All (HasEvenEnds loaded.partly.map.arcs) loaded.partly.map.polygons) }
     ensures refused { IfErr result (IsRefused options.now text.now) }
     ensures status { IfErr result IsMapStatus }
 {

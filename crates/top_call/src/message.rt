@@ -3,7 +3,7 @@ ghost use Rattle.std.specs.Prelude.{◌≡◌, ◌++◌, IsTrue, OnOk, OnErr, co
 ghost use Rattle.outside_io.specs.Causes.{HasCause};
 ghost use Rattle.outside_io.specs.Texts.{AppendsPrefix};
 ghost use Rattle.top_call.specs.Parts.{spelled};
-ghost use Rattle.top_call.specs.Messages.{message_of, usage_line, shape_words, off_words, what_words, role_words, limit_line, edges_line, point_line, meeting_line, off_weights_line};
+ghost use Rattle.top_call.specs.Messages.{message_of, usage_line, shape_words, off_words, what_words, role_words, limit_line, edges_line, point_line, meeting_line, off_weights_line, no_polygon_line};
 
 use crate::parts::{Part, write_parts};
 use crate::status::{Limit, Meeting, Role, Status};
@@ -69,7 +69,7 @@ fn role_words(role: Role) -> &'static str
 fn usage() -> &'static str
     ensures { result.now ≡ usage_line }
 {
-    "usage: simplify [--hold] [--weights WX WY] E FILE, layers [--hold] [--weights WX WY] E FILE, check [--hold] [--weights WX WY] E FILE OUT CERT, faces FILE, make R C SEED, demo R C SEED E\n"
+    "usage: simplify [--hold] [--weights WX WY] E FILE, layers [--hold] [--weights WX WY] E FILE, check [--hold] [--weights WX WY] E FILE OUT CERT, faces FILE, make R C SEED, demo R C SEED E, dissolve LIST FILE\n"
 }
 
 // A line of at most five parts.
@@ -176,6 +176,19 @@ fn off_weights_line(arc: u32, position: u32) -> [Part; 9]
     ])
 }
 
+// The line that tells of a polygon that the map does not have.
+fn no_polygon_line(polygon: u32) -> [Part; 9]
+    ensures { spelled result ≡ no_polygon_line polygon }
+{
+    short_line([
+        Part::Words("no polygon "),
+        Part::Number(polygon),
+        END,
+        NONE,
+        NONE,
+    ])
+}
+
 // The line that tells a status, empty for `Done` and `No`.
 fn line_of(status: &Status) -> [Part; 9]
     ensures { spelled result ≡ message_of status.now }
@@ -193,6 +206,7 @@ fn line_of(status: &Status) -> [Part; 9]
         Status::WriteFault => plain("writing failed\n"),
         Status::NoMemory => plain("no memory\n"),
         Status::OffWeights(arc, position) => off_weights_line(*arc, *position),
+        Status::NoPolygon(polygon) => no_polygon_line(*polygon),
     }
 }
 

@@ -9,10 +9,11 @@ ghost use Rattle.top_call.specs.Messages.{message_of};
 ghost use Rattle.top_call.specs.Verdicts.{verdict_line};
 ghost use Rattle.top_call.specs.Answers.{Answer, verdict_status, IsWorkAnswer, IsFormAnswer, IsAnswer};
 ghost use Rattle.top_call.specs.Endings.{HasFault, IsMapStatus, IsWritten, IsWorkStatus, IsSilent, ReadsTexts, names_of, Replies, Settles, Notes};
-ghost use Rattle.top_call.specs.Headline.{Headline, Completes, Judges, ReachesYes, KeepsLines, IsMaking, IsMakingStatus, Makes};
+ghost use Rattle.top_call.specs.Headline.{Headline, Completes, Judges, ReachesYes, KeepsLines, Borders, IsMaking, IsMakingStatus, Makes};
 
 use crate::checking::verdict_on;
 use crate::demo::{coverage, demo};
+use crate::dissolving::dissolved;
 use crate::faces::write_faces;
 use crate::forms::Request;
 use crate::message::tell;
@@ -110,6 +111,7 @@ fn work<O: Sink>(alloc: Global, request: &Request<'_>, texts: &Texts, out: &mut 
         Request::Demo(rows, cols, seed, bound) => {
             write_bytes(demo(alloc, *rows, *cols, *seed, *bound), out)
         }
+        Request::Dissolve(list, _) => write_bytes(dissolved(alloc, list, &texts.file), out),
     }
 }
 
@@ -189,8 +191,8 @@ fn tell_end<N: Sink>(note: &mut N, status: &Status)
 ///
 /// The named texts are read in the order FILE, OUT, CERT, each within its limit, before any of them
 /// is judged. Then the first that applies is the answer: FILE is no JSON text, or no topology; the
-/// weights take a position off the grid; the map is not arranged and no arcs are to be held; else
-/// the work is done. `NoMemory` may stand in place of each of them until the first byte is written.
+/// weights take a position off the grid; the map is not arranged and no arcs are to be held; it has
+/// not each polygon of a list; else the work is done. `NoMemory` may stand in place of each of them until the first byte is written.
 ///
 /// What `simplify` writes is faithful to the text: each byte stands but those of the value of
 /// `arcs`. Each arc there has some of its positions, both ends of each chain among them, and each
@@ -271,6 +273,13 @@ pub fn run<I: Inputs, O: Sink, N: Sink>(
         → ¬ (Rose (O.faults out.old) (O.faults out.new))
         → KeepsLines (bytes_of words.now) (I.texts inputs.old)
         O.tells (O.written out.old) (O.written out.new) result }
+
+    // What is written of polygons that are dissolved is their border: closed rings of the arcs that
+    // they name an odd number of times in sum, each once, which are crossed from each grid point as
+    // often, modulo 2, as these polygons in sum.
+    ensures borders { IsTrue I.tells → IsTrue O.tells
+        → Borders (bytes_of words.now) (I.texts inputs.old) (O.written out.old) (O.written out.new)
+        result }
 
     // A coverage is made and thinned, or a write failed, or memory was wanting.
     ensures made { Makes (bytes_of words.now) result }

@@ -68,6 +68,8 @@ pub enum Status {
     /// The weights take a position off the grid: the least arc of which they do, and its least such
     /// position, equal positions in a row taken once.
     OffWeights(u32, u32),
+    /// The map has no polygon with this number, the first such of the list.
+    NoPolygon(u32),
 }
 
 impl From<NoMemory> for Status {
@@ -98,6 +100,7 @@ impl Status {
             Status::WriteFault => 9,
             Status::NoMemory => 10,
             Status::OffWeights(_, _) => 13,
+            Status::NoPolygon(_) => 14,
         }
     }
 }

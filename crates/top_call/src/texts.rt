@@ -130,6 +130,7 @@ pub fn read_texts<I: Inputs>(
         Request::Faces(file) => read_one(alloc, file, inputs),
         Request::Make(_, _, _) => Ok(no_texts(alloc)),
         Request::Demo(_, _, _, _) => Ok(no_texts(alloc)),
+        Request::Dissolve(_, file) => read_one(alloc, file, inputs),
     }
 }
 

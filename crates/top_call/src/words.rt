@@ -1,10 +1,11 @@
 //! What the words of a command line ask for.
 ghost use Rattle.std.specs.Prelude.{◌≡◌, ◌≤◌, [], ◌∷◌, IfSome};
 ghost use Rattle.std.specs.Option.{option_map};
-ghost use Rattle.top_call.specs.Words.{number_between, bound_of, weights_of, is_name, is_standard, are_names, named_form, bounded_form, weighed_form, held_form, task_form, faces_form, make_form, demo_form, command_form, form_of};
+ghost use Rattle.top_call.specs.Words.{number_between, bound_of, weights_of, is_name, is_standard, are_names, named_form, bounded_form, weighed_form, held_form, task_form, faces_form, make_form, demo_form, dissolve_form, command_form, form_of};
 ghost use Rattle.top_call.specs.Requests.{bytes_of, form, Spells};
 
 use crate::forms::{Options, Request};
+use crate::lists::is_list;
 use grid_exact::{Bound, Weights};
 
 // The most rows and the most columns of cells.
@@ -24,9 +25,9 @@ enum Task {
     Check,
 }
 
-// The number from `least` to `most` that a word spells in decimal digits, with no sign and no
-// leading zero. `None` where it spells no such number.
-fn parse_between(word: &str, least: u32, most: u32) -> Option<u32>
+/// The number from `least` to `most` that a word spells in decimal digits, with no sign and no
+/// leading zero. `None` where it spells no such number.
+pub fn parse_between(word: &str, least: u32, most: u32) -> Option<u32>
     ensures value { result ≡ number_between least most word.now }
     ensures least { IfSome result (λ number. least ≤ number) }
     ensures most { IfSome result (λ number. number ≤ most) }
@@ -232,6 +233,30 @@ fn demo_request(words: &[String]) -> Option<Request<'_>>
     }
 }
 
+// The request of `dissolve LIST FILE`.
+fn dissolve_request(words: &[String]) -> Option<Request<'_>>
+    ensures { option_map form result ≡ dissolve_form (bytes_of words.now) }
+{
+    match words {
+        [list, file] => border_request(list.as_str(), file.as_str()),
+        _ => None,
+    }
+}
+
+// What a list and a name behind `dissolve` ask for.
+fn border_request<'a>(list: &'a str, file: &'a str) -> Option<Request<'a>>
+    ensures { option_map form result ≡ dissolve_form (list.entry.now ∷ file.entry.now ∷ []) }
+{
+    if file.is_empty() {
+        return None;
+    }
+    if is_list(list) {
+        Some(Request::Dissolve(list, file))
+    } else {
+        None
+    }
+}
+
 // What the words behind a command ask for.
 fn commanded<'a>(command: &str, words: &'a [String]) -> Option<Request<'a>>
     ensures { option_map form result ≡ command_form command.now (bytes_of words.now) }
@@ -243,6 +268,7 @@ fn commanded<'a>(command: &str, words: &'a [String]) -> Option<Request<'a>>
         "faces" => faces_request(words),
         "make" => make_request(words),
         "demo" => demo_request(words),
+        "dissolve" => dissolve_request(words),
         _ => None,
     }
 }

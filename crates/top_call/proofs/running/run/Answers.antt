@@ -5,13 +5,17 @@ use Rattle.top_call.specs.Requests.{bytes_of}
 use Rattle.top_call.proofs.Judging.{judges}
 use Rattle.top_call.proofs.AnswerOfWords.{answer_is_one}
 use Rattle.top_call.proofs.Finished.{reaches_yes, keeps_lines}
-use Rattle.top_call.proofs.Promised.{headline, completes}
+use Rattle.top_call.proofs.Promised.{headline, borders, completes}
 use Rattle.top_call.proofs.Settled.{settled_as}
 use Rattle.top_call.proofs.running.run.Goals as goal
 
 pub returns-clause-headline : goal.returns-clause-headline
 returns-clause-headline g c = λ tells told.
     headline (bytes_of c.args.words.now) (g.I.Inputs.texts c.args.inputs.now) g.O.Sink.tells (g.O.Sink.written c.args.out.now) (g.O.Sink.written c.answer-status.new.out) c.answer-status.result (c.answer-status.ensures.answers tells) told
+
+pub returns-clause-borders : goal.returns-clause-borders
+returns-clause-borders g c = λ tells told.
+    borders (bytes_of c.args.words.now) (g.I.Inputs.texts c.args.inputs.now) g.O.Sink.tells (g.O.Sink.written c.args.out.now) (g.O.Sink.written c.answer-status.new.out) c.answer-status.result (c.answer-status.ensures.answers tells) told
 
 pub returns-clause-complete : goal.returns-clause-complete
 returns-clause-complete g c = λ tells no_read no_write.

@@ -3,9 +3,11 @@ use Rattle.std.proofs.Common.{◌≡◌, ap, refl, sym, subst}
 use Rattle.map_gen.specs.Make.{made}
 use Rattle.top_call.specs.declared.forms.Request.{Request}
 use Rattle.top_call.specs.Requests.{form}
+use Rattle.top_call.specs.Words.{polygons_in}
 use Rattle.top_call.specs.Reading.{texts_read}
 use Rattle.top_call.specs.Answers.{done, IsSimplified, IsCertified, IsDemoed, IsMadeAnswer, IsWorkAnswer}
 use Rattle.top_call.specs.Endings.{Settles}
+use Rattle.top_call.proofs.Borders.{dissolve_settles}
 use Rattle.top_call.proofs.Settled.{map_settles, check_settles, faces_settles, made_settles}
 use Rattle.top_call.proofs.running.work.Goals as goal
 
@@ -49,3 +51,10 @@ returns-in-Demo-clause-answers g c =
     subst (λ (r : Request). Settles (IsWorkAnswer (form r) read) g.O.Sink.tells (g.O.Sink.written c.args.out.now) (g.O.Sink.written c.write_bytes-in-Demo.new.out) c.write_bytes-in-Demo.result) (sym c.in-Demo.is)
     (made_settles g.O.Sink.written c.args.out.now c.write_bytes-in-Demo.new.out (λ bytes. IsDemoed c.in-Demo.rows c.in-Demo.cols c.in-Demo.seed c.in-Demo.bound bytes) (λ a. IsMadeAnswer (IsDemoed c.in-Demo.rows c.in-Demo.cols c.in-Demo.seed c.in-Demo.bound) a) g.O.Sink.tells
     c.demo.result c.write_bytes-in-Demo.result (λ bytes is. (bytes, is, refl)) c.demo.ensures.written c.demo.ensures.status c.write_bytes-in-Demo.ensures.replies c.write_bytes-in-Demo.ensures.refused)
+
+pub returns-in-Dissolve-clause-answers : goal.returns-in-Dissolve-clause-answers
+returns-in-Dissolve-clause-answers g c =
+    let read = texts_read c.args.texts.now in
+    subst (λ (r : Request). Settles (IsWorkAnswer (form r) read) g.O.Sink.tells (g.O.Sink.written c.args.out.now) (g.O.Sink.written c.write_bytes-in-Dissolve.new.out) c.write_bytes-in-Dissolve.result) (sym c.in-Dissolve.is)
+    (dissolve_settles g.O.Sink.written c.args.out.now c.write_bytes-in-Dissolve.new.out (polygons_in c.in-Dissolve.list.now) c.deref-in-Dissolve.result.now read.file g.O.Sink.tells
+    c.dissolved.result c.write_bytes-in-Dissolve.result c.deref-in-Dissolve.ensures.value c.dissolved.ensures.written c.dissolved.ensures.refused c.dissolved.ensures.status c.write_bytes-in-Dissolve.ensures.replies c.write_bytes-in-Dissolve.ensures.refused)
