@@ -1,12 +1,16 @@
--- Two levels of one number are one.
-use Rattle.std.proofs.Common.{◌∙◌, ℕ, zero, suc, ◌<◌, List, get_or, length, map, pos, slice_index, sym, ap, subst}
+-- Two levels of one number are one, and so are the ranks by them.
+use Rattle.std.proofs.Common.{◌≡◌, ◌∙◌, ℕ, zero, suc, ◌<◌, ◌≤◌, ℤ, List, [], get_or, length, map, pos, slice_index, sym, ap, subst, arith}
+use Rattle.std.specs.Prelude.{Contains}
+use Rattle.std.proofs.lemmas.Grind.{same_number_lists}
+use Rattle.std.proofs.lemmas.List.{same_lists, get_or_default}
 use Rattle.arc_map.specs.Map.{Map}
+use Rattle.arc_map.specs.Arranged.{arc_at}
 use Rattle.arc_map.specs.Records.{Record}
 use Rattle.chain_replace.specs.Run.{IsOutcome}
 use Rattle.chain_replace.proofs.SameOutcome.{outcome_is_one}
 use Rattle.chain_replace.proofs.ThinnedArcs.{outcome_thins_arcs}
-use Rattle.pyramid.specs.Levels.{kept_of, level_terms}
-use Rattle.pyramid.specs.Laws.{LevelsAreOne}
+use Rattle.pyramid.specs.Levels.{AreRanks, kept_of, level_terms, rank_at}
+use Rattle.pyramid.specs.Laws.{LevelsAreOne, RanksAreOne}
 
 pub levels_are_one : LevelsAreOne
 levels_are_one m bounds zero l other first second = (
@@ -30,3 +34,30 @@ levels_are_one m bounds (suc k) l other first second =
           ∙ ap (λ (rs : List Record). map (slice_index (second.0.places arc)) (kept_of rs arc)) one.1
           ∙ sym (second.2.places arc inside'),
     )
+
+-- ---- ranks
+
+-- the level of a position's rank keeps it, so it has this rank or more by the other ranks too
+no-less : (m : Map) (bounds : List ℤ) (ranks others : List (List ℕ)) → AreRanks m bounds ranks → AreRanks m bounds others → (arc at : ℕ) → arc < length m.arcs → at < length (arc_at m arc) → rank_at ranks arc at ≤ rank_at others arc at
+no-less m bounds ranks others first second arc at below within =
+    let k = rank_at ranks arc at in
+    let low = first.most arc at below within in
+    let a = first.levels k low in
+    let b = second.levels k low in
+    let same = levels_are_one m bounds k a.level b.level a.is b.is in
+    let inside : arc < length a.level.left.arcs = omega (arith, below, a.count) in
+    let here = (a.ranked arc at below within).0 (omega arith) in
+    (b.ranked arc at below within).1 (subst (λ (ns : List ℕ). Contains ns at) (same.1 arc inside) here)
+
+pub ranks_are_one : RanksAreOne
+ranks_are_one m bounds ranks others first second =
+    same_lists ranks others (first.count ∙ sym second.count) (λ arc d inside.
+    let below : arc < length m.arcs = omega (arith, inside, first.count) in
+    let inside' : arc < length others = omega (arith, below, second.count) in
+    let long = first.long arc below in
+    let same : get_or ranks arc [] ≡ get_or others arc [] = same_number_lists (get_or ranks arc []) (get_or others arc []) (first.long arc below ∙ sym (second.long arc below)) (λ at short.
+    let within : at < length (arc_at m arc) = omega (arith, short, long) in
+    let one = no-less m bounds ranks others first second arc at below within in
+    let two = no-less m bounds others ranks second first arc at below within in
+    omega (arith, one, two)) in
+    get_or_default ranks arc d [] inside ∙ same ∙ get_or_default others arc [] d inside')

@@ -76,19 +76,22 @@ pub record TellsLevel (m : Map) (bounds : List ℤ) (ranks : List (List ℕ)) (k
   pub ranked : (arc at : ℕ) → arc < length m.arcs → at < length (arc_at m arc) → (k ≤ rank_at ranks arc at) ↔ Contains (level.places arc) at
   -- the arcs of the level have just the positions of rank k or more
   pub count : length level.left.arcs ≡ length m.arcs
-  pub arcs : (arc : ℕ) → arc < length m.arcs → arc_at level.left arc ≡ map (place_at (arc_at m arc)) (places_of_rank k (get_or ranks arc []))
+  pub arcs : (arc : ℕ) → arc < length m.arcs →
+      arc_at level.left arc ≡ map (place_at (arc_at m arc)) (places_of_rank k (get_or ranks arc []))
   -- the level is arranged
   pub arranged : IsArranged level.left
   -- it has the ends of the arcs of the map read
   pub starts : (arc : ℕ) → arc < length m.arcs → position_at level.left arc 0 ≡ position_at m arc 0
-  pub ends : (arc : ℕ) → arc < length m.arcs → position_at level.left arc (length (arc_at level.left arc) - 1) ≡ position_at m arc (length (arc_at m arc) - 1)
+  pub ends : (arc : ℕ) → arc < length m.arcs →
+      position_at level.left arc (length (arc_at level.left arc) - 1) ≡ position_at m arc (length (arc_at m arc) - 1)
   -- each feature point is in the polygons that it is in on the map read
   pub inside : (p : Place) (polygon : ℕ) → Contains m.points p → is_inside p level.left polygon ≡ is_inside p m polygon
 
 -- each vertex that level number k + 1 drops is within the bound of the edge of that level which skips it
 abbrev pub DropsNear : Map → List ℤ → List (List ℕ) → ℕ → Type 0
 DropsNear m bounds ranks k =
-    (arc a at b : ℕ) → arc < length m.arcs → b < length (arc_at m arc) → a < at → at < b → rank_at ranks arc at ≡ k → AreNeighbours ranks (k + 1) arc a b
+    (arc a at b : ℕ) → arc < length m.arcs → b < length (arc_at m arc) → a < at → at < b
+    → rank_at ranks arc at ≡ k → AreNeighbours ranks (k + 1) arc a b
     → NearBy (level_terms (get_or bounds k (pos 0))) (position_at m arc a) (position_at m arc b) (position_at m arc at)
 
 -- the ranks of the positions of the map by the levels of these bounds

@@ -26,7 +26,8 @@ pub record IsLevelOf (m : Map) (l : Level) : Type 0 where
 
 -- a position has rank k or more where the level keeps it
 abbrev pub IsRanked : Map → List (List ℕ) → ℕ → Level → Type 0
-IsRanked m ranks k l = (arc at : ℕ) → arc < length m.arcs → at < length (arc_at m arc) → (k ≤ rank_at ranks arc at) ↔ Contains (l.places arc) at
+IsRanked m ranks k l =
+    (arc at : ℕ) → arc < length m.arcs → at < length (arc_at m arc) → (k ≤ rank_at ranks arc at) ↔ Contains (l.places arc) at
 
 -- level number k, with the ranks by it
 pub record IsReached (m : Map) (bounds : List ℤ) (ranks : List (List ℕ)) (k : ℕ) (l : Level) : Type 0 where

@@ -56,9 +56,9 @@ impl Level {
     }
 }
 
-/// The ranks of the positions of the map by the levels of these bounds, in grid units, of which there
-/// are at most 16. Level 0 is the map read, and level `k` is what a run with bound number `k`, the
-/// weights 1 and no held arcs leaves of the level before it. The only error is want of memory.
+/// The ranks of the positions of the map by the levels of these bounds, at most 16, in grid units.
+/// Level 0 is the map read, and level `k` is what a run with the `k`-th bound, the weights 1 and no
+/// held arcs leaves of the level before it. The only error is want of memory.
 pub fn rank_all(alloc: Global, arranged: Arranged, bounds: &[Bound]) -> Result<Ranks, NoMemory>
     requires { length bounds.now ≤ 16 }
     ensures { IfOk result (AreRanks arranged bounds.now) }

@@ -8,7 +8,7 @@ mod places;
 mod ranks;
 mod text;
 
-pub use laws::{levels_are_one, run_keeps_places};
+pub use laws::{levels_are_one, ranks_are_one, run_keeps_places};
 pub use level::rank_all;
 pub use ranks::Ranks;
 

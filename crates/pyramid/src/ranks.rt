@@ -11,8 +11,8 @@ use grid_exact::Bound;
 use std::alloc::{AllocError, Global};
 use std::marker::Model;
 
-/// For each position of each arc of a map its rank: the number of the last level that keeps it, where
-/// the map read is level 0. Contracts see for each arc the list of the ranks of its positions.
+/// For each position of each arc of a map its rank: the number of the last level that keeps it,
+/// where the map read is level 0. Contracts see for each arc the list of the ranks of its positions.
 #[derive(Drop)]
 pub struct Ranks {
     ranks: Vec<Vec<u32>>,
@@ -46,8 +46,8 @@ impl Ranks {
     }
 
     /// The text of the ranks by the levels of these bounds: `{"bounds":`, the list of the bounds,
-    /// `,"ranks":`, the list with one list of ranks for each arc, and `}`. Numbers are decimals, and
-    /// there is no white space. The only error is want of memory.
+    /// `,"ranks":`, the list with one list of ranks for each arc, and `}`. Numbers are decimals,
+    /// and there is no white space. The only error is want of memory.
     pub fn text(&self, alloc: Global, bounds: &[Bound]) -> Result<Vec<u8>, NoMemory>
         ensures { IfOk result (λ text. text.items ≡ ranks_text bounds.now self.now) }
     {
