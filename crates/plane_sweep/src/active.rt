@@ -1,5 +1,5 @@
 //! The active spans of the sweep, from the lowest to the highest, and what one place does to them.
-ghost use Rattle.std.specs.Prelude.{◌≡◌, ◌↔◌, ◌≤◌, ◌<ℤ◌, ◌++◌, IsTrue, IfOk, OnOk, length, take, drop, pos};
+ghost use Rattle.std.specs.Prelude.{◌≡◌, ◌↔◌, ◌≤◌, ◌-◌, ◌<ℤ◌, ◌++◌, IsTrue, IfOk, OnOk, length, take, drop, pos};
 ghost use Rattle.arc_map.specs.Edges.{EachOf};
 ghost use Rattle.plane_sweep.specs.Meeting.{EndsUnder, side_of};
 ghost use Rattle.plane_sweep.specs.Passage.{BeginsAt, Chained, EndsAt, FirstHas, IsPassage, LastHas, MayPass, TurnsUp};
@@ -59,8 +59,42 @@ fn side(span: &Span, q: Point) -> i64
     area(span.low.place, span.high.place, q)
 }
 
-// Puts the new spans in the place of those from `from` to `to`.
-fn replace(active: &mut Vec<Span>, from: usize, to: usize, new: &[Span]) -> Result<(), AllocError>
+// Puts the new spans in the place of those from `from` to `to`: over them where they are as many.
+fn replace(
+    active: &mut Vec<Span>,
+    from: usize,
+    to: usize,
+    new: &[Span],
+) -> Result<(), AllocError>
+    requires order { from ≤ to }
+    requires within { to ≤ length active.old.items }
+    ensures { OnOk result (active.new.items ≡ take from active.old.items ++ (new.now ++ drop to active.old.items)) }
+{
+    if new.len() == to - from {
+        overwrite(active, from, to, new);
+        Ok(())
+    } else {
+        exchange(active, from, to, new)
+    }
+}
+
+// Writes as many new spans over those from `from` to `to`.
+fn overwrite(active: &mut [Span], from: usize, to: usize, new: &[Span])
+    requires order { from ≤ to }
+    requires within { to ≤ length active.old }
+    requires many { length new.now ≡ to - from }
+    ensures { active.new ≡ take from active.old ++ (new.now ++ drop to active.old) }
+{
+    active[from..to].copy_from_slice(new);
+}
+
+// Cuts the spans from `from` to `to`, and puts the new ones there.
+fn exchange(
+    active: &mut Vec<Span>,
+    from: usize,
+    to: usize,
+    new: &[Span],
+) -> Result<(), AllocError>
     requires order { from ≤ to }
     requires within { to ≤ length active.old.items }
     ensures { OnOk result (active.new.items ≡ take from active.old.items ++ (new.now ++ drop to active.old.items)) }
