@@ -60,12 +60,7 @@ fn side(span: &Span, q: Point) -> i64
 }
 
 // Puts the new spans in the place of those from `from` to `to`: over them where they are as many.
-fn replace(
-    active: &mut Vec<Span>,
-    from: usize,
-    to: usize,
-    new: &[Span],
-) -> Result<(), AllocError>
+fn replace(active: &mut Vec<Span>, from: usize, to: usize, new: &[Span]) -> Result<(), AllocError>
     requires order { from ≤ to }
     requires within { to ≤ length active.old.items }
     ensures { OnOk result (active.new.items ≡ take from active.old.items ++ (new.now ++ drop to active.old.items)) }
@@ -89,12 +84,7 @@ fn overwrite(active: &mut [Span], from: usize, to: usize, new: &[Span])
 }
 
 // Cuts the spans from `from` to `to`, and puts the new ones there.
-fn exchange(
-    active: &mut Vec<Span>,
-    from: usize,
-    to: usize,
-    new: &[Span],
-) -> Result<(), AllocError>
+fn exchange(active: &mut Vec<Span>, from: usize, to: usize, new: &[Span]) -> Result<(), AllocError>
     requires order { from ≤ to }
     requires within { to ≤ length active.old.items }
     ensures { OnOk result (active.new.items ≡ take from active.old.items ++ (new.now ++ drop to active.old.items)) }
