@@ -11,6 +11,7 @@ from . import grid as grids
 from .command import MOST_POSITIONS, Command, Weights
 from .errors import NotConfirmed
 from .grid import Grid
+from .report import Measures
 from .thin import Program, Source, Work, prepare
 from .tiles import CutOut, Snapshot, Task, Tile, Tiling, take_round, towns_in
 from .topology import Topology
@@ -23,7 +24,7 @@ Progress = Callable[[int, int], object]
 
 
 @dataclass
-class LargeReport:
+class LargeReport(Measures):
     """What ``simplify_large`` did.
 
     ``confirmed`` is the number of tiles to which the checker said yes. ``held`` are numbers of
@@ -31,13 +32,6 @@ class LargeReport:
     for each worker the most bytes that it and its largest program had, ``processor`` is seconds.
     """
 
-    arcs: int
-    positions_before: int
-    positions_after: int
-    bound: int
-    step: float
-    weights: Weights | None
-    largest_move: float
     tiles: int = 0
     rounds: int = 0
     cuts: int = 0
@@ -49,12 +43,8 @@ class LargeReport:
 
     def lines(self) -> list[str]:
         """Give the report as lines."""
-        weights = "" if self.weights is None else f", weights {self.weights[0]} {self.weights[1]}"
         lines = [
-            f"{self.positions_before:,} positions of {self.arcs:,} arcs, "
-            f"{self.positions_after:,} left",
-            f"grid step {self.step:g}, bound {self.bound} steps{weights}, "
-            f"largest move by snapping {self.largest_move:g}",
+            *self.measured(),
             f"{self.tiles} tiles in {self.rounds} rounds, {self.cuts} cuts of long arcs, "
             f"{self.confirmed} tiles confirmed by the checker",
             f"{len(self.held)} arcs held",

@@ -7,13 +7,12 @@ from .meetings import Held
 
 
 @dataclass
-class Report:
-    """What ``simplify`` did.
+class Measures:
+    """What every run is measured by.
 
     Positions are those of arcs, repeats included. ``bound`` is in grid steps, times the weight up
     where there are weights. ``step`` is the grid step up and ``largest_move`` the largest move by
-    snapping on an axis, both in the CRS's units. ``built_by`` is ``build`` (of the command),
-    ``muchiqen`` or ``file``. ``verdict`` is the checker's word where it was asked.
+    snapping on an axis, both in the CRS's units.
     """
 
     arcs: int
@@ -23,6 +22,26 @@ class Report:
     step: float
     weights: Weights | None
     largest_move: float
+
+    def measured(self) -> list[str]:
+        """Give the measures as lines."""
+        weights = "" if self.weights is None else f", weights {self.weights[0]} {self.weights[1]}"
+        return [
+            f"{self.positions_before:,} positions of {self.arcs:,} arcs, "
+            f"{self.positions_after:,} left",
+            f"grid step {self.step:g}, bound {self.bound} steps{weights}, "
+            f"largest move by snapping {self.largest_move:g}",
+        ]
+
+
+@dataclass
+class Report(Measures):
+    """What ``simplify`` did.
+
+    ``built_by`` is ``build`` (of the command), ``muchiqen`` or ``file``. ``verdict`` is the
+    checker's word where it was asked.
+    """
+
     built_by: str
     held: list[Held] = field(default_factory=list)
     notes: list[str] = field(default_factory=list)
@@ -30,14 +49,7 @@ class Report:
 
     def lines(self) -> list[str]:
         """Give the report as lines."""
-        weights = "" if self.weights is None else f", weights {self.weights[0]} {self.weights[1]}"
-        lines = [
-            f"{self.positions_before:,} positions of {self.arcs:,} arcs, "
-            f"{self.positions_after:,} left",
-            f"grid step {self.step:g}, bound {self.bound} steps{weights}, "
-            f"largest move by snapping {self.largest_move:g}",
-            f"{len(self.held)} arcs held",
-        ]
+        lines = [*self.measured(), f"{len(self.held)} arcs held"]
         lines += [f"held: {held}" for held in self.held[:20]]
         if len(self.held) > 20:
             lines.append(f"held: {len(self.held) - 20} more")
