@@ -9,10 +9,18 @@ points        one arc of 1,024 positions with 600,000 points beside it
 diagonals     300,000 long edges side by side
 long          1,000 chains of 1,023 edges that wiggle by 40 either way
 slant         50 chains of 1,023 edges at 45 degrees that wiggle by 20 on each axis
+nested-N      N rings of 200 positions round one middle, as contours are (500, 1000, 2000)
+zigzag-N      one arc of N positions to and fro (250000, 1000000)
+hub-N         N arcs of one edge that meet in one place (5000, 20000)
+hub-bent      5,000 arcs of 19 edges that meet in one place
+lines-N       N long wiggling lines, slightly aslant, with towns between them (200, 800)
+scattered     a lattice of 120 by 120 cells, each polygon some 24 cells from all over it
 """
 
 from __future__ import annotations
 
+import functools
+import math
 import random
 import sys
 from collections.abc import Callable, Iterator
@@ -160,6 +168,76 @@ def slant() -> str:
     return topology("", (arc(k) for k in range(50)))
 
 
+def on_circle(part: float, radius: float) -> Position:
+    """The place on a circle after so large a part of its turn."""
+    turn = part * 2 * math.pi
+    return int(radius * math.cos(turn)), int(radius * math.sin(turn))
+
+
+def nested(count: int) -> str:
+    """Closed arcs one round the other, far apart beside a bound of 100."""
+    turns = [*range(199), 0]
+    rings = ([on_circle(at / 199, 20_000 * (ring + 1)) for at in turns] for ring in range(count))
+    return topology("", rings)
+
+
+def zigzag(count: int) -> str:
+    """One arc to and fro between two lines, which are 10 apart."""
+    return topology("", [[(at, at % 2 * 10) for at in range(count)]])
+
+
+def hub(count: int) -> str:
+    """Arcs of one edge from one place to all sides."""
+    return topology("", ([(0, 0), on_circle(at / count, 1e8)] for at in range(count)))
+
+
+def hub_bent() -> str:
+    """Arcs of twenty positions from one place to all sides."""
+    count, steps = 5000, range(2, 21)
+    arcs = ([(0, 0), *(on_circle(at / count, 1e7 * k) for k in steps)] for at in range(count))
+    return topology("", arcs)
+
+
+def lines(count: int) -> str:
+    """Long lines one above the other, a town over each tenth vertex."""
+    rolls = random.Random(4)
+
+    def line(k: int) -> Arc:
+        return [(at * 500, k * 5000 + rolls.randint(-30, 30) + at * 7) for at in range(1000)]
+
+    above = [
+        (at * 500 + 3, k * 5000 + 60 + at * 7) for k in range(count) for at in range(0, 1000, 10)
+    ]
+    return topology(multi_point(above), (line(k) for k in range(count)))
+
+
+def scattered() -> str:
+    """A lattice whose polygons are cells from all over it, with a town in each cell."""
+    size, step, group = 120, 1000, 24
+
+    def side(x: int, y: int, across: int) -> Arc:
+        start = (x * step, y * step)
+        return [start, (start[0] + across * step, start[1] + (1 - across) * step)]
+
+    arcs = [side(x, y, 1) for y in range(size + 1) for x in range(size)]
+    arcs += [side(x, y, 0) for y in range(size) for x in range(size + 1)]
+    places = [(row, column) for row in range(size) for column in range(size)]
+    random.Random(8).shuffle(places)
+
+    def ring(row: int, column: int) -> str:
+        across = row * size + column
+        up = (size + 1) * size + row * (size + 1) + column
+        return f"[[{across},{up + 1},{-(across + size) - 1},{-up - 1}]]"
+
+    groups = [places[at : at + group] for at in range(0, len(places), group)]
+    parts = (",".join(ring(*place) for place in members) for members in groups)
+    drawn = ",".join(f'{{"type":"MultiPolygon","arcs":[{part}]}}' for part in parts)
+    third = step // 3
+    towns = [(x * step + third, y * step + third) for y in range(size) for x in range(size)]
+    grouped = f'"groups":{{"type":"GeometryCollection","geometries":[{drawn}]}}'
+    return topology(f"{grouped},{multi_point(towns)}", arcs)
+
+
 INPUTS: dict[str, Callable[[], str]] = {
     "lattice": lattice,
     "named": named,
@@ -167,6 +245,12 @@ INPUTS: dict[str, Callable[[], str]] = {
     "diagonals": diagonals,
     "long": long,
     "slant": slant,
+    "hub-bent": hub_bent,
+    "scattered": scattered,
+    **{f"nested-{n}": functools.partial(nested, n) for n in (500, 1000, 2000)},
+    **{f"zigzag-{n}": functools.partial(zigzag, n) for n in (250_000, 1_000_000)},
+    **{f"hub-{n}": functools.partial(hub, n) for n in (5000, 20_000)},
+    **{f"lines-{n}": functools.partial(lines, n) for n in (200, 800)},
 }
 
 
