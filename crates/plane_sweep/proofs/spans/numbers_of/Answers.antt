@@ -1,0 +1,8 @@
+use Rattle.std.proofs.Common.{◌<◌, length, arith}
+use Rattle.plane_sweep.proofs.Numbers.{spans_more}
+use Rattle.plane_sweep.proofs.spans.numbers_of.Goals as goal
+
+pub loop-number-preserved : goal.loop-number-preserved
+loop-number-preserved c =
+    let within : c.loop-number.number < length c.args.spans.now = omega arith in
+    spans_more c.args.spans.now c.loop-number.numbers.items _ c.loop-number.number within c.in_ok-push.ensures.items c.loop-number.invariant
