@@ -1,4 +1,5 @@
-//! The active spans of the sweep by their numbers, from the lowest to the highest, and what one place does to them.
+//! The active spans of the sweep by their numbers, from the lowest to the highest, and what one
+//! place does to them.
 ghost use Rattle.std.specs.Prelude.{◌≡◌, ◌↔◌, ◌≤◌, ◌-◌, ◌<ℤ◌, ◌++◌, IsTrue, IfOk, OnOk, length, take, drop, pos};
 ghost use Rattle.arc_map.specs.Edges.{EachOf};
 ghost use Rattle.plane_sweep.specs.Meeting.{EndsUnder, side_of};
@@ -9,8 +10,9 @@ use crate::spans::{Corner, Span, may_join, numbered};
 use grid_exact::{Frame, Point, area, precedes};
 use std::alloc::AllocError;
 
-// Passes the place q, at which the new spans begin: in the place of the active spans through q come the new ones. False where
-// the active spans and the new ones are not in order there, edges meet there that may not join, or no moves are left.
+// Passes the place q, at which the new spans begin: in the place of the active spans through q come
+// the new ones. False where the active spans and the new ones are not in order there, edges meet
+// there that may not join, or no moves are left.
 pub fn pass(
     active: &mut Vec<u32>,
     spans: &[Span],
@@ -18,7 +20,8 @@ pub fn pass(
     new: &[u32],
     moves_left: &mut u64,
 ) -> Result<bool, AllocError>
-    ensures { IfOk result (λ passed. IsTrue passed → IsPassage q (spans_in spans.now new.now) (spans_in spans.now active.old.items) (spans_in spans.now active.new.items)) }
+    ensures { IfOk result (λ passed. IsTrue passed → IsPassage q (spans_in spans.now new.now)
+        (spans_in spans.now active.old.items) (spans_in spans.now active.new.items)) }
 {
     let from = count_below(spans, active, q);
     let (below, rest) = active.split_at(from);
@@ -81,7 +84,8 @@ fn side(span: &Span, q: Point) -> i64
 fn replace(active: &mut Vec<u32>, from: usize, to: usize, new: &[u32]) -> Result<(), AllocError>
     requires order { from ≤ to }
     requires within { to ≤ length active.old.items }
-    ensures { OnOk result (active.new.items ≡ take from active.old.items ++ (new.now ++ drop to active.old.items)) }
+    ensures { OnOk result (active.new.items ≡ take from active.old.items ++ (new.now
+        ++ drop to active.old.items)) }
 {
     if new.len() == to - from {
         overwrite(active, from, to, new);
@@ -105,7 +109,8 @@ fn overwrite(active: &mut [u32], from: usize, to: usize, new: &[u32])
 fn exchange(active: &mut Vec<u32>, from: usize, to: usize, new: &[u32]) -> Result<(), AllocError>
     requires order { from ≤ to }
     requires within { to ≤ length active.old.items }
-    ensures { OnOk result (active.new.items ≡ take from active.old.items ++ (new.now ++ drop to active.old.items)) }
+    ensures { OnOk result (active.new.items ≡ take from active.old.items ++ (new.now
+        ++ drop to active.old.items)) }
 {
     active.drain(from..to);
     active.extend_from_slice(new)?;
@@ -122,7 +127,8 @@ fn may_pass(
     above: &[u32],
     new: &[u32],
 ) -> bool
-    ensures { IsTrue result → MayPass q (spans_in spans.now below.now) (spans_in spans.now block.now) (spans_in spans.now above.now) (spans_in spans.now new.now) }
+    ensures { IsTrue result → MayPass q (spans_in spans.now below.now)
+        (spans_in spans.now block.now) (spans_in spans.now above.now) (spans_in spans.now new.now) }
 {
     match hub(spans, block, new) {
         None => false,
@@ -239,10 +245,12 @@ fn does_first_turn(spans: &[Span], span: &Span, others: &[u32]) -> bool
     }
 }
 
-// Whether each span, with the new ones between those below and above, stays under its neighbour, where those below do and
-// those above do.
+// Whether each span, with the new ones between those below and above, stays under its neighbour,
+// where those below do and those above do.
 fn are_linked_to(spans: &[Span], below: &[u32], new: &[u32], above: &[u32]) -> bool
-    ensures { IsTrue result → Chained EndsUnder (spans_in spans.now below.now) → Chained EndsUnder (spans_in spans.now above.now) → Chained EndsUnder (spans_in spans.now below.now ++ (spans_in spans.now new.now ++ spans_in spans.now above.now)) }
+    ensures { IsTrue result → Chained EndsUnder (spans_in spans.now below.now) → Chained EndsUnder
+        (spans_in spans.now above.now) → Chained EndsUnder (spans_in spans.now below.now ++
+        (spans_in spans.now new.now ++ spans_in spans.now above.now)) }
 {
     if new.is_empty() {
         is_seam(spans, below, above)
@@ -269,7 +277,8 @@ fn are_linked(spans: &[Span], numbers: &[u32]) -> bool
 
 // Whether the last of the lower spans stays under the first of the upper ones, or there is none.
 fn is_seam(spans: &[Span], lower: &[u32], upper: &[u32]) -> bool
-    ensures { IsTrue result → LastHas (λ s. FirstHas (EndsUnder s) (spans_in spans.now upper.now)) (spans_in spans.now lower.now) }
+    ensures { IsTrue result → LastHas (λ s. FirstHas (EndsUnder s) (spans_in spans.now upper.now))
+        (spans_in spans.now lower.now) }
 {
     match lower.split_last() {
         Some((number, _)) => is_under_next(spans, &numbered(spans, *number), upper),

@@ -1,4 +1,5 @@
-//! The check of a map and its held arcs: by pairs of edges that come near one another, or by a sweep where those are many.
+//! The check of a map and its held arcs: by pairs of edges that come near one another, or by a
+//! sweep where those are many.
 ghost use Rattle.std.specs.Prelude.{◌≡◌, ℕ, Err, IfOk, IsTrue};
 ghost use Rattle.arc_map.specs.Arranged.{HasNoClash, IsArranged, IsHeldList, IsLeastClash, IsLeastPoint};
 ghost use Rattle.arc_map.specs.declared.refs.EdgeRef.{EdgeRef};
@@ -16,18 +17,20 @@ use sweep_index::EdgeSlabs;
 // Edges are crowded where so many pairs of them come near one another for each edge.
 const CROWD: u64 = 64;
 
-// How many numbers a sweep may move for each pair of edges that come near one another: then it takes about as long as to look
-// at the pairs.
+// How many numbers a sweep may move for each pair of edges that come near one another: then it
+// takes about as long as to look at the pairs.
 const MOVES: u64 = 16;
 
-/// The map as an arranged one, or its meeting: the least clashing pair of edges, or where there is none the least feature
-/// point that lies on an edge, with the least such edge. The map is given up where it is not arranged. Where edges are
-/// crowded, as at a hub of many arcs, a sweep finds whether any clash.
+/// The map as an arranged one, or its meeting: the least clashing pair of edges, or where there is
+/// none the least feature point that lies on an edge, with the least such edge. The map is given up
+/// where it is not arranged. Where edges are crowded, as at a hub of many arcs, a sweep finds
+/// whether any clash.
 pub fn check_map(alloc: Global, map: ArcMap) -> Result<Arranged, CheckError>
     ensures same { IfOk result (λ arranged. arranged ≡ map) }
     ensures arranged { IfOk result (λ arranged. IsArranged map) }
     ensures edges { (e f : EdgeRef) → result ≡ Err (CheckError.Edges e f) → IsLeastClash map e f }
-    ensures point { (k : ℕ) (e : EdgeRef) → result ≡ Err (CheckError.PointOnArc k e) → IsLeastPoint map k e }
+    ensures point { (k : ℕ) (e : EdgeRef) → result ≡ Err (CheckError.PointOnArc k e)
+        → IsLeastPoint map k e }
 {
     if !is_swept_clean(alloc, &map)? {
         return check(alloc, map);
@@ -35,8 +38,9 @@ pub fn check_map(alloc: Global, map: ArcMap) -> Result<Arranged, CheckError>
     without_clash(alloc, map)
 }
 
-/// The map with its held arcs: those of which an edge clashes with some edge, or on which a feature point lies. The only error
-/// is want of memory. Where edges are crowded, as at a hub of many arcs, a sweep finds whether any clash.
+/// The map with its held arcs: those of which an edge clashes with some edge, or on which a feature
+/// point lies. The only error is want of memory. Where edges are crowded, as at a hub of many arcs,
+/// a sweep finds whether any clash.
 pub fn hold_map(alloc: Global, map: ArcMap) -> Result<Partly, NoMemory>
     ensures same { IfOk result (λ partly. partly.map ≡ map) }
     ensures held { IfOk result (λ partly. IsHeldList map partly.held) }
@@ -47,7 +51,8 @@ pub fn hold_map(alloc: Global, map: ArcMap) -> Result<Partly, NoMemory>
     hold(alloc, map)
 }
 
-// Whether the edges are crowded, and a sweep finds that no two clash, and no feature point lies on one.
+// Whether the edges are crowded, and a sweep finds that no two clash, and no feature point lies on
+// one.
 fn is_swept_arranged(alloc: Global, map: &ArcMap) -> Result<bool, NoMemory>
     ensures { IfOk result (λ arranged. IsTrue arranged → IsArranged map.now) }
 {
@@ -72,8 +77,8 @@ fn is_swept_clean(alloc: Global, map: &ArcMap) -> Result<bool, NoMemory>
     is_clean(alloc, map, moves)
 }
 
-// How many numbers a sweep may move: none where the edges are not crowded, or to look at each feature point beside each edge
-// would take longer than to look at the pairs of edges.
+// How many numbers a sweep may move: none where the edges are not crowded, or to look at each
+// feature point beside each edge would take longer than to look at the pairs of edges.
 fn moves_for(alloc: Global, map: &ArcMap) -> Result<u64, AllocError> {
     let edges = edge_count(map);
     let pairs = pair_count(alloc, map, edges)?;

@@ -45,8 +45,8 @@ pub fn edge_count(map: &ArcMap) -> usize {
     count
 }
 
-// About how many pairs of the edges, of which there are so many, come near one another: within a band of y, of which there are
-// as many as edges in a band.
+// About how many pairs of the edges, of which there are so many, come near one another: within a
+// band of y, of which there are as many as edges in a band.
 pub fn pair_count(alloc: Global, map: &ArcMap, edges: usize) -> Result<u64, AllocError> {
     let stride = edges / SAMPLES + 1;
     let areas = sampled(alloc, map, stride)?;

@@ -13,8 +13,8 @@ use arc_map::{ArcMap, NoMemory};
 use grid_exact::Point;
 use std::alloc::{AllocError, Global};
 
-// Whether the sweep passes all places of the map in order, and moves at most so many numbers: then no two edges of the map
-// clash.
+// Whether the sweep passes all places of the map in order, and moves at most so many numbers: then
+// no two edges of the map clash.
 pub fn is_clean(alloc: Global, map: &ArcMap, moves: u64) -> Result<bool, NoMemory>
     ensures { IfOk result (λ clean. IsTrue clean → HasNoClash map.now) }
 {
@@ -31,8 +31,8 @@ pub fn is_clean(alloc: Global, map: &ArcMap, moves: u64) -> Result<bool, NoMemor
     Ok(passed)
 }
 
-// Passes the places in order. True where the sweep comes past all of them: then any two of the spans with these numbers meet
-// lawfully.
+// Passes the places in order. True where the sweep comes past all of them: then any two of the
+// spans with these numbers meet lawfully.
 fn pass_all(
     alloc: Global,
     spans: &[Span],
@@ -43,7 +43,8 @@ fn pass_all(
     requires rising { AllRise (spans_in spans.now numbers.now) }
     requires ends { HasHighs (spans_in spans.now numbers.now) places.now }
     requires places { Chained IsBefore places.now }
-    ensures { IfOk result (λ passed. IsTrue passed → AllMeetLawfully (spans_in spans.now numbers.now)) }
+    ensures { IfOk result (λ passed. IsTrue passed → AllMeetLawfully
+        (spans_in spans.now numbers.now)) }
 {
     let mut active = Vec::new(alloc);
     let mut moves_left = moves;
