@@ -2,7 +2,6 @@
 #![tactic(auto)]
 
 mod finder;
-mod held;
 mod laws;
 mod run;
 mod terms;

@@ -42,7 +42,7 @@ past_of w frame rising start v s h = rw (s.in_frame, s.direction, s.place) h
 pub past_from : (w : Wedge) (frame : Frame) (rising : Bool) (start v : Place) → StartsAt w frame rising start → IsPast w v → IsAlong frame rising start v
 past_from w frame rising start v s h = rw (s.in_frame, s.direction, s.place) at h
 
-pub starts_still : (w new : Wedge) (frame : Frame) (rising : Bool) (start : Place) → StartsAt w frame rising start → StartsAt new w.frame w.rising w.origin → StartsAt new frame rising start
+pub starts_still : (w new : Wedge) (frame : Frame) (rising : Bool) (start : Place) → StartsAt w frame rising start → StartsAt new w.direction.frame w.direction.rising w.origin → StartsAt new frame rising start
 starts_still w new frame rising start s t = record { in_frame = t.in_frame ∙ s.in_frame; direction = t.direction ∙ s.direction; place = t.place ∙ s.place }
 
 -- ---- both rows of an edge

@@ -7,7 +7,7 @@ ghost use Rattle.side_wedge.specs.Gathered.{AreStraysOf, AreMapStrays};
 
 use crate::boxes::box_round;
 use crate::strays::{Stray, stray_of};
-use grid_exact::{Frame, Point};
+use grid_exact::{Direction, Point};
 use map_index::IndexedMap;
 use sweep_index::Walk;
 
@@ -16,21 +16,21 @@ use sweep_index::Walk;
 pub fn gather(
     strays: &mut Vec<Stray>,
     chain: &[Point],
-    frame: Frame,
-    rising: bool,
+    direction: Direction,
     k: u32,
     map: &IndexedMap,
 )
     requires several { 2 ≤ length chain.now }
     requires short { length chain.now ≤ 1024 }
     requires room { items_in map.now ≤ vec_capacity strays.old }
-    ensures strays { AreMapStrays frame rising chain.now k map.now strays.new.items }
+    ensures strays {
+        AreMapStrays direction.frame direction.rising chain.now k map.now strays.new.items }
     ensures sorted { IsNonDecreasingBy (λ x. x.row) strays.new.items }
     ensures count { vec_len strays.new ≤ items_in map.now }
     ensures capacity { vec_capacity strays.new ≡ vec_capacity strays.old }
 {
     let (low, high) = box_round(chain);
-    collect(strays, chain, frame, rising, k, map.in_box(low, high));
+    collect(strays, chain, direction, k, map.in_box(low, high));
     strays.sort_unstable_by_key(|stray| stray.row);
 }
 
@@ -38,21 +38,22 @@ pub fn gather(
 fn collect(
     strays: &mut Vec<Stray>,
     chain: &[Point],
-    frame: Frame,
-    rising: bool,
+    direction: Direction,
     k: u32,
     walk: Walk<'_>,
 )
     requires several { 2 ≤ length chain.now }
     requires short { length chain.now ≤ 1024 }
     requires room { length (items_left walk) ≤ vec_capacity strays.old }
-    ensures strays { AreStraysOf frame rising chain.now k (items_left walk.entry) strays.new.items }
+    ensures strays {
+        AreStraysOf direction.frame direction.rising chain.now k (items_left walk.entry)
+        strays.new.items }
     ensures count { vec_len strays.new ≤ length (items_left walk.entry) }
     ensures capacity { vec_capacity strays.new ≡ vec_capacity strays.old }
 {
     strays.clear();
     for (_, item) in walk {
-        push_found(strays, stray_of(chain, frame, rising, k, item));
+        push_found(strays, stray_of(chain, direction, k, item));
     }
 }
 

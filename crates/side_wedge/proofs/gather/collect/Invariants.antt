@@ -11,4 +11,4 @@ invariant-loop-item l =
     (items_left l.fn.walk ≡ l.yielded ++ items_left l.item-iterator) ×
     (length l.strays.items ≤ length l.yielded) ×
     (vec_capacity l.strays ≡ vec_capacity l.fn.strays) ×
-    AreStraysOf l.frame l.rising l.chain l.k l.yielded l.strays.items
+    AreStraysOf l.direction.frame l.direction.rising l.chain l.k l.yielded l.strays.items

@@ -13,7 +13,7 @@ returns-clause-strays c =
     let old = c.collect.new.strays.items in
     let new = c.sort_unstable_by_key.new.self.items in
     let moved = c.sort_unstable_by_key.ensures.permutation in
-    map_strays c.args.frame c.args.rising c.args.chain.now c.args.k c.args.map.now c.box_round-low.result.0 c.box_round-low.result.1 (items_left c.in_box.result) old new c.in_box.ensures c.box_round-low.ensures c.collect.ensures.strays
+    map_strays c.args.direction.frame c.args.direction.rising c.args.chain.now c.args.k c.args.map.now c.box_round-low.result.0 c.box_round-low.result.1 (items_left c.in_box.result) old new c.in_box.ensures c.box_round-low.ensures c.collect.ensures.strays
     (λ x has. Contains-permutation old new x moved has)
     (λ x has. Contains-permutation new old x (IsPermutation-sym old new moved) has)
 

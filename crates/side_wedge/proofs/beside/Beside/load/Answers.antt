@@ -29,5 +29,5 @@ returns-clause-beside c =
     let starts = starts_by strays c.deref.result.now c.write_starts.new.starts.items rows c.deref.ensures.value c.write_starts.ensures.count c.write_starts.ensures.right in
     let of = of_strays_by strays c.deref-2.result.now c.write_places.new.xs.items c.write_places.new.ys.items c.deref-2.ensures.value c.write_places.ensures.across c.write_places.ensures.up in
     let b : Flanks = record { room = c.self.inside.room; frame = c.frame-frame.result; xs = c.write_places.new.xs.items; ys = c.write_places.new.ys.items; starts = c.write_starts.new.starts.items } in
-    laid_beside w c.args.k c.rises.result strays b
-    (laid_by w c.args.k c.rises.result strays b c.chain-chain.result.now rows c.frame-frame.ensures c.chain-chain.ensures.places refl c.rises.ensures c.gather.ensures.strays starts of c.chain-chain.ensures.edges)
+    laid_beside w c.args.k c.rises-rising.result strays b
+    (laid_by w c.args.k c.rises-rising.result strays b c.chain-chain.result.now rows c.frame-frame.ensures c.chain-chain.ensures.places refl c.rises-rising.ensures c.gather.ensures.strays starts of c.chain-chain.ensures.edges)
