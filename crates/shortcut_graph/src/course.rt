@@ -17,8 +17,8 @@ use map_index::IndexedMap;
 /// How the weighted vertices of a chain run: they rise in the order of the frame throughout, or fall throughout.
 #[derive(Clone, Copy)]
 pub(crate) struct Course {
-    frame: Frame,
-    rising: bool,
+    pub(crate) frame: Frame,
+    pub(crate) rising: bool,
 }
 
 impl Course {

@@ -2,12 +2,13 @@
 ghost use Rattle.std.specs.Prelude.{◌≡◌, ◌↔◌, ◌+◌, ◌-◌, ◌*◌, ◌<◌, ◌≤◌, ℕ, true, false, IfOk, IsTrue, length, slice_index_or};
 ghost use Rattle.grid_exact.specs.Geometry.{Place};
 ghost use Rattle.chain_side.specs.Along.{IsAlong, vertex_at};
+ghost use Rattle.lane_kernels.specs.Hands.{IsOnSide};
 ghost use Rattle.lane_kernels.specs.declared.side.Hand.{Hand};
 ghost use Rattle.arc_map.specs.Chains.{chain_at, IsClearIn};
 ghost use Rattle.map_index.specs.IndexedMap.{items_in};
 ghost use Rattle.side_wedge.specs.Obstacles.{IsConsistentPair};
 ghost use Rattle.side_wedge.specs.Flanks.{IsBeside, StandsInRow, KeepsSides, row_of};
-ghost use Rattle.side_wedge.specs.Rows.{IsRow, KeepsAll};
+ghost use Rattle.side_wedge.specs.Rows.{IsRow, KeepsAll, KeepsEdges};
 ghost use Rattle.side_wedge.specs.Strays.{RunsAlong};
 ghost use Rattle.side_wedge.specs.Wedge.{Lets, StartsAt, IsPast};
 
@@ -16,7 +17,7 @@ use crate::strays::{Stray, rises, write_places, write_starts};
 use crate::wedge::Wedge;
 use arc_map::NoMemory;
 use grid_exact::{Frame, MAX_CHAIN_EDGES, Point};
-use lane_kernels::Hand;
+use lane_kernels::{Hand, first_off_side};
 use map_index::IndexedMap;
 use std::alloc::Global;
 use std::marker::Model;
@@ -97,6 +98,66 @@ impl Beside {
         } else {
             let frame = self.frame();
             self.write_row(chain, frame, rises(chain, frame), i, row);
+        }
+    }
+
+    /// Whether the pair (i, j) of vertices of chain number `k` is consistent: whether nothing changes sides where the chain from i to j
+    /// becomes a straight edge.
+    pub fn is_consistent(&self, map: &IndexedMap, k: u32, i: usize, j: usize) -> bool
+        requires chain { k < length map.now.chains }
+        requires clear { IsClearIn map.now.chains map.now.read.points k }
+        requires beside { IsBeside map.now.chains map.now.read.points k self.now }
+        requires order { i < j }
+        requires within { j ≤ length (chain_at map.now.chains k).rest }
+        ensures { IsTrue result ↔ IsConsistentPair map.now.chains map.now.read.points k i j }
+    {
+        let chain = map.chain(k);
+        self.keeps_all(i, j, chain[i], chain[j])
+    }
+
+    // Whether what stands beside the edges from the number i to before the number j keeps its hand of the way from a to v. Edges after
+    // the last with something beside them are not looked at.
+    fn keeps_all(&self, i: usize, j: usize, a: Point, v: Point) -> bool
+        requires order { i < j }
+        requires few { j < 1024 }
+        requires rows { 2 * j < length self.now.starts }
+        ensures { IsTrue result ↔ KeepsEdges self.now i j a v }
+    {
+        let end = self.starts[2 * j];
+        let mut edge = i;
+        while self.starts[2 * edge] < end {
+            if !self.keeps_edge(edge, a, v) {
+                return false;
+            }
+            edge += 1;
+        }
+        true
+    }
+
+    // Whether what stands beside the edge keeps its hand of the way from a to v.
+    fn keeps_edge(&self, edge: usize, a: Point, v: Point) -> bool
+        requires few { edge < 1024 }
+        requires rows { 2 * edge + 2 < length self.now.starts }
+        ensures { IsTrue result ↔ KeepsSides self.now edge a v }
+    {
+        if self.starts[2 * edge] == self.starts[2 * edge + 2] {
+            return true;
+        }
+        if !self.keeps_row(2 * edge, Hand::Left, a, v) {
+            return false;
+        }
+        self.keeps_row(2 * edge + 1, Hand::Right, a, v)
+    }
+
+    // Whether what stands in the row is on this hand of the way from a to v.
+    fn keeps_row(&self, row: usize, hand: Hand, a: Point, v: Point) -> bool
+        requires { row + 1 < length self.now.starts }
+        ensures { IsTrue result ↔ ((p : Place) → StandsInRow self.now row p → IsOnSide hand a v p) }
+    {
+        let (xs, ys) = self.row(row);
+        match first_off_side(a, v, xs, ys, hand) {
+            None => true,
+            Some(_) => false,
         }
     }
 
