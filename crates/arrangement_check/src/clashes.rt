@@ -8,7 +8,7 @@ use arc_map::{ArcMap, EdgeRef};
 use grid_exact::on_segment;
 use segment_tests::{Joint, Neighbours, clash};
 
-// Whether two edges of the map clash.
+/// Whether two edges of the map, by their numbers, clash: they have a point in common that is no lawful junction.
 pub fn edges_clash(map: &ArcMap, e: EdgeRef, f: EdgeRef) -> bool
     requires first { IsMapEdge map.now e }
     requires second { IsMapEdge map.now f }
@@ -53,7 +53,7 @@ fn neighbours(e: EdgeRef, f: EdgeRef) -> Neighbours
     }
 }
 
-// Whether the feature point lies on the edge of the map.
+/// Whether the feature point with this number, from 0, lies on the edge of the map.
 pub fn town_is_on(map: &ArcMap, town: u32, e: EdgeRef) -> bool
     requires point { town < length map.now.points }
     requires edge { IsMapEdge map.now e }

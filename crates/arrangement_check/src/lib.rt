@@ -8,5 +8,6 @@ mod meeting;
 mod partly;
 
 pub use arranged::Arranged;
-pub use meeting::{CheckError, check};
-pub use partly::{Partly, hold};
+pub use clashes::{edges_clash, town_is_on};
+pub use meeting::{CheckError, check, check_over, check_towns};
+pub use partly::{Partly, hold, hold_over};

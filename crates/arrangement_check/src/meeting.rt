@@ -47,10 +47,33 @@ pub fn check(alloc: Global, map: ArcMap) -> Result<Arranged, CheckError>
     ensures point { (k : ℕ) (e : EdgeRef) → result ≡ Err (CheckError.PointOnArc k e) → IsLeastPoint map k e }
 {
     let index = EdgeIndex::build(alloc, &map)?;
-    if let Some((e, f)) = least_clash(&map, &index) {
+    check_over(map, &index)
+}
+
+/// What `check` answers, by an index of the map that is at hand.
+pub fn check_over(map: ArcMap, index: &EdgeIndex) -> Result<Arranged, CheckError>
+    requires index { IsIndexOf map index.now }
+    ensures same { IfOk result (λ arranged. arranged ≡ map) }
+    ensures arranged { IfOk result (λ arranged. IsArranged map) }
+    ensures edges { (e f : EdgeRef) → result ≡ Err (CheckError.Edges e f) → IsLeastClash map e f }
+    ensures point { (k : ℕ) (e : EdgeRef) → result ≡ Err (CheckError.PointOnArc k e) → IsLeastPoint map k e }
+{
+    if let Some((e, f)) = least_clash(&map, index) {
         return Err(CheckError::Edges(e, f));
     }
-    if let Some((town, e)) = least_town(&map, &index) {
+    check_towns(map, index)
+}
+
+/// What `check` answers of a map in which no two edges clash, by an index of the map that is at hand.
+pub fn check_towns(map: ArcMap, index: &EdgeIndex) -> Result<Arranged, CheckError>
+    requires index { IsIndexOf map index.now }
+    requires no_clash { HasNoClash map }
+    ensures same { IfOk result (λ arranged. arranged ≡ map) }
+    ensures arranged { IfOk result (λ arranged. IsArranged map) }
+    ensures edges { (e f : EdgeRef) → result ≡ Err (CheckError.Edges e f) → IsLeastClash map e f }
+    ensures point { (k : ℕ) (e : EdgeRef) → result ≡ Err (CheckError.PointOnArc k e) → IsLeastPoint map k e }
+{
+    if let Some((town, e)) = least_town(&map, index) {
         return Err(CheckError::PointOnArc(town, e));
     }
     Ok(Arranged::adopt(map))
@@ -98,6 +121,9 @@ fn least_town(map: &ArcMap, index: &EdgeIndex) -> Option<(u32, EdgeRef)>
     ensures least { IfSome result (λ town. IsLeastPoint map.now town.0 town.1) }
     ensures none { IfNone result (HasNoTown map.now) }
 {
+    if map.point_count() == 0 {
+        return None;
+    }
     let mut least: Option<(u32, EdgeRef)> = None;
     let mut towns = index.towns();
     while let Some((town, e)) = towns.next() {

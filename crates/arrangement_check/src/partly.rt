@@ -81,9 +81,18 @@ pub fn hold(alloc: Global, map: ArcMap) -> Result<Partly, NoMemory>
     ensures held { IfOk result (λ partly. IsHeldList map partly.held) }
 {
     let index = EdgeIndex::build(alloc, &map)?;
+    hold_over(alloc, map, &index)
+}
+
+/// What `hold` answers, by an index of the map that is at hand.
+pub fn hold_over(alloc: Global, map: ArcMap, index: &EdgeIndex) -> Result<Partly, NoMemory>
+    requires index { IsIndexOf map index.now }
+    ensures same { IfOk result (λ partly. partly.map ≡ map) }
+    ensures held { IfOk result (λ partly. IsHeldList map partly.held) }
+{
     let mut marks = vec![in alloc; false; map.arc_count() as usize]?;
-    mark_clashes(&map, &index, &mut marks);
-    mark_towns(&map, &index, &mut marks);
+    mark_clashes(&map, index, &mut marks);
+    mark_towns(&map, index, &mut marks);
     let held = ArcList::new(marked(alloc, &marks)?);
     Ok(Partly { map, held })
 }

@@ -8,3 +8,4 @@ pub mod Sweeping
 pub mod Placing
 pub mod Cleaning
 pub mod Answering
+pub mod Numbers

@@ -1,5 +1,5 @@
 -- The edges of a map as spans from their lower end to their higher one.
-use Rattle.std.specs.Prelude.{◌≡◌, ◌⊎◌, ◌+◌, ◌==◌, ◌||◌, ℕ, List, All, Contains, length, slice_index_or}
+use Rattle.std.specs.Prelude.{◌≡◌, ◌⊎◌, ◌+◌, ◌==◌, ◌||◌, ℕ, false, List, All, Contains, length, map, slice_index_or}
 use Rattle.grid_exact.specs.Geometry.{Place, IsBefore}
 use Rattle.arc_map.specs.Map.{Map}
 use Rattle.arc_map.specs.Arranged.{IsMapEdge, arc_at, nowhere}
@@ -43,3 +43,18 @@ pub record AreSpansBefore (m : Map) (arc at : ℕ) (spans : List Span) : Type 0 
 pub record AreSpansOf (m : Map) (spans : List Span) : Type 0 where
   pub only : All (IsSpanOf m) spans
   pub all : (e : EdgeRef) → IsMapEdge m e → HasSpan spans e
+
+-- a span at no edge
+abbrev pub no_corner : Corner
+no_corner = record { arc = 0; at = 0; is_end = false; place = nowhere }
+
+abbrev pub no_span : Span
+no_span = record { low = no_corner; high = no_corner; edge = record { arc = 0; at = 0 } }
+
+-- the span with this number
+abbrev pub span_of : List Span → ℕ → Span
+span_of spans number = slice_index_or spans number no_span
+
+-- the spans with these numbers
+abbrev pub spans_in : List Span → List ℕ → List Span
+spans_in spans numbers = map (span_of spans) numbers

@@ -1,38 +1,56 @@
-//! The active spans of the sweep, from the lowest to the highest, and what one place does to them.
+//! The active spans of the sweep by their numbers, from the lowest to the highest, and what one place does to them.
 ghost use Rattle.std.specs.Prelude.{◌≡◌, ◌↔◌, ◌≤◌, ◌-◌, ◌<ℤ◌, ◌++◌, IsTrue, IfOk, OnOk, length, take, drop, pos};
 ghost use Rattle.arc_map.specs.Edges.{EachOf};
 ghost use Rattle.plane_sweep.specs.Meeting.{EndsUnder, side_of};
 ghost use Rattle.plane_sweep.specs.Passage.{BeginsAt, Chained, EndsAt, FirstHas, IsPassage, LastHas, MayPass, TurnsUp};
+ghost use Rattle.plane_sweep.specs.Spans.{span_of, spans_in};
 
-use crate::spans::{Corner, Span, may_join};
+use crate::spans::{Corner, Span, may_join, numbered};
 use grid_exact::{Frame, Point, area, precedes};
 use std::alloc::AllocError;
 
 // Passes the place q, at which the new spans begin: in the place of the active spans through q come the new ones. False where
-// the active spans and the new ones are not in order there, or edges meet there that may not join.
-pub fn pass(active: &mut Vec<Span>, q: Point, new: &[Span]) -> Result<bool, AllocError>
-    ensures { IfOk result (λ passed. IsTrue passed → IsPassage q new.now active.old.items active.new.items) }
+// the active spans and the new ones are not in order there, edges meet there that may not join, or no moves are left.
+pub fn pass(
+    active: &mut Vec<u32>,
+    spans: &[Span],
+    q: Point,
+    new: &[u32],
+    moves_left: &mut u64,
+) -> Result<bool, AllocError>
+    ensures { IfOk result (λ passed. IsTrue passed → IsPassage q (spans_in spans.now new.now) (spans_in spans.now active.old.items) (spans_in spans.now active.new.items)) }
 {
-    let from = count_below(active, q);
+    let from = count_below(spans, active, q);
     let (below, rest) = active.split_at(from);
-    let (block, above) = rest.split_at(count_through(rest, q));
+    let (block, above) = rest.split_at(count_through(spans, rest, q));
     let to = from + block.len();
-    if !may_pass(q, below, block, above, new) {
+    if !may_pass(spans, q, below, block, above, new) {
+        return Ok(false);
+    }
+    if new.len() != block.len() && !spend(moves_left, above.len()) {
         return Ok(false);
     }
     replace(active, from, to, new)?;
     Ok(true)
 }
 
+// Takes so many of the moves that are left, if there are as many.
+fn spend(moves_left: &mut u64, count: usize) -> bool {
+    let count = count as u64;
+    let enough = count <= *moves_left;
+    *moves_left = moves_left.saturating_sub(count);
+    enough
+}
+
 // How many spans are under the place, where they are in order.
-fn count_below(active: &[Span], q: Point) -> usize
+fn count_below(spans: &[Span], active: &[u32], q: Point) -> usize
     ensures { result ≤ length active.now }
 {
     let mut low = 0;
     let mut high = active.len();
     while low < high {
         let middle = low + (high - low) / 2;
-        if side(&active[middle], q) > 0 {
+        if side(&numbered(spans, active[middle]), q) > 0 {
             low = middle + 1;
         } else {
             high = middle;
@@ -42,11 +60,11 @@ fn count_below(active: &[Span], q: Point) -> usize
 }
 
 // How many spans from the first on pass through the place.
-fn count_through(spans: &[Span], q: Point) -> usize
-    ensures { result ≤ length spans.now }
+fn count_through(spans: &[Span], rest: &[u32], q: Point) -> usize
+    ensures { result ≤ length rest.now }
 {
     let mut count = 0;
-    while count < spans.len() && side(&spans[count], q) == 0 {
+    while count < rest.len() && side(&numbered(spans, rest[count]), q) == 0 {
         count += 1;
     }
     count
@@ -60,7 +78,7 @@ fn side(span: &Span, q: Point) -> i64
 }
 
 // Puts the new spans in the place of those from `from` to `to`: over them where they are as many.
-fn replace(active: &mut Vec<Span>, from: usize, to: usize, new: &[Span]) -> Result<(), AllocError>
+fn replace(active: &mut Vec<u32>, from: usize, to: usize, new: &[u32]) -> Result<(), AllocError>
     requires order { from ≤ to }
     requires within { to ≤ length active.old.items }
     ensures { OnOk result (active.new.items ≡ take from active.old.items ++ (new.now ++ drop to active.old.items)) }
@@ -74,7 +92,7 @@ fn replace(active: &mut Vec<Span>, from: usize, to: usize, new: &[Span]) -> Resu
 }
 
 // Writes as many new spans over those from `from` to `to`.
-fn overwrite(active: &mut [Span], from: usize, to: usize, new: &[Span])
+fn overwrite(active: &mut [u32], from: usize, to: usize, new: &[u32])
     requires order { from ≤ to }
     requires within { to ≤ length active.old }
     requires many { length new.now ≡ to - from }
@@ -84,7 +102,7 @@ fn overwrite(active: &mut [Span], from: usize, to: usize, new: &[Span])
 }
 
 // Cuts the spans from `from` to `to`, and puts the new ones there.
-fn exchange(active: &mut Vec<Span>, from: usize, to: usize, new: &[Span]) -> Result<(), AllocError>
+fn exchange(active: &mut Vec<u32>, from: usize, to: usize, new: &[u32]) -> Result<(), AllocError>
     requires order { from ≤ to }
     requires within { to ≤ length active.old.items }
     ensures { OnOk result (active.new.items ≡ take from active.old.items ++ (new.now ++ drop to active.old.items)) }
@@ -96,67 +114,74 @@ fn exchange(active: &mut Vec<Span>, from: usize, to: usize, new: &[Span]) -> Res
 }
 
 // Whether the sweep may pass the place q with these active spans below it, through it and above it.
-fn may_pass(q: Point, below: &[Span], block: &[Span], above: &[Span], new: &[Span]) -> bool
-    ensures { IsTrue result → MayPass q below.now block.now above.now new.now }
+fn may_pass(
+    spans: &[Span],
+    q: Point,
+    below: &[u32],
+    block: &[u32],
+    above: &[u32],
+    new: &[u32],
+) -> bool
+    ensures { IsTrue result → MayPass q (spans_in spans.now below.now) (spans_in spans.now block.now) (spans_in spans.now above.now) (spans_in spans.now new.now) }
 {
-    match hub(block, new) {
+    match hub(spans, block, new) {
         None => false,
         Some(hub) => {
-            is_over_last(below, q)
-                && is_under_first(above, q)
-                && all_end(block, q, &hub)
-                && all_begin(new, q, &hub)
-                && is_fan(new)
-                && are_linked_to(below, new, above)
+            is_over_last(spans, below, q)
+                && is_under_first(spans, above, q)
+                && all_end(spans, block, q, &hub)
+                && all_begin(spans, new, q, &hub)
+                && is_fan(spans, new)
+                && are_linked_to(spans, below, new, above)
         }
     }
 }
 
 // A corner at a place where these spans end and those begin.
-fn hub(block: &[Span], new: &[Span]) -> Option<Corner> {
+fn hub(spans: &[Span], block: &[u32], new: &[u32]) -> Option<Corner> {
     match block.first() {
-        Some(span) => Some(span.high),
+        Some(number) => Some(numbered(spans, *number).high),
         None => match new.first() {
-            Some(span) => Some(span.low),
+            Some(number) => Some(numbered(spans, *number).low),
             None => None,
         },
     }
 }
 
 // Whether the place is above the last span, or there is none.
-fn is_over_last(below: &[Span], q: Point) -> bool
-    ensures { IsTrue result → LastHas (λ s. pos 0 <ℤ side_of s q) below.now }
+fn is_over_last(spans: &[Span], below: &[u32], q: Point) -> bool
+    ensures { IsTrue result → LastHas (λ s. pos 0 <ℤ side_of s q) (spans_in spans.now below.now) }
 {
     match below.split_last() {
-        Some((span, _)) => is_above(span, q),
+        Some((number, _)) => is_above(spans, *number, q),
         None => true,
     }
 }
 
 // Whether the place is above the span.
-fn is_above(span: &Span, q: Point) -> bool
-    ensures { IsTrue result ↔ (pos 0 <ℤ side_of span.now q) }
+fn is_above(spans: &[Span], number: u32, q: Point) -> bool
+    ensures { IsTrue result → (pos 0 <ℤ side_of (span_of spans.now number) q) }
 {
-    side(span, q) > 0
+    side(&numbered(spans, number), q) > 0
 }
 
 // Whether the place is under the first span, or there is none.
-fn is_under_first(above: &[Span], q: Point) -> bool
-    ensures { IsTrue result → FirstHas (λ s. side_of s q <ℤ pos 0) above.now }
+fn is_under_first(spans: &[Span], above: &[u32], q: Point) -> bool
+    ensures { IsTrue result → FirstHas (λ s. side_of s q <ℤ pos 0) (spans_in spans.now above.now) }
 {
     match above.split_first() {
-        Some((span, _)) => side(span, q) < 0,
+        Some((number, _)) => side(&numbered(spans, *number), q) < 0,
         None => true,
     }
 }
 
 // Whether all spans end at the place, and may join the hub there.
-fn all_end(block: &[Span], q: Point, hub: &Corner) -> bool
-    ensures { IsTrue result → EachOf (EndsAt q hub.now) block.now }
+fn all_end(spans: &[Span], block: &[u32], q: Point, hub: &Corner) -> bool
+    ensures { IsTrue result → EachOf (EndsAt q hub.now) (spans_in spans.now block.now) }
 {
     let mut rest = block;
-    while let Some((span, others)) = rest.split_first() {
-        if !ends_at(span, q, hub) {
+    while let Some((number, others)) = rest.split_first() {
+        if !ends_at(&numbered(spans, *number), q, hub) {
             return false;
         }
         rest = others;
@@ -171,12 +196,12 @@ fn ends_at(span: &Span, q: Point, hub: &Corner) -> bool
 }
 
 // Whether all spans begin at the place, and may join the hub there.
-fn all_begin(new: &[Span], q: Point, hub: &Corner) -> bool
-    ensures { IsTrue result → EachOf (BeginsAt q hub.now) new.now }
+fn all_begin(spans: &[Span], new: &[u32], q: Point, hub: &Corner) -> bool
+    ensures { IsTrue result → EachOf (BeginsAt q hub.now) (spans_in spans.now new.now) }
 {
     let mut rest = new;
-    while let Some((span, others)) = rest.split_first() {
-        if !begins_at(span, q, hub) {
+    while let Some((number, others)) = rest.split_first() {
+        if !begins_at(&numbered(spans, *number), q, hub) {
             return false;
         }
         rest = others;
@@ -191,12 +216,12 @@ fn begins_at(span: &Span, q: Point, hub: &Corner) -> bool
 }
 
 // Whether each span turns up from the one before it.
-fn is_fan(new: &[Span]) -> bool
-    ensures { IsTrue result → Chained TurnsUp new.now }
+fn is_fan(spans: &[Span], new: &[u32]) -> bool
+    ensures { IsTrue result → Chained TurnsUp (spans_in spans.now new.now) }
 {
     let mut rest = new;
-    while let Some((span, others)) = rest.split_first() {
-        if !does_first_turn(span, others) {
+    while let Some((number, others)) = rest.split_first() {
+        if !does_first_turn(spans, &numbered(spans, *number), others) {
             return false;
         }
         rest = others;
@@ -205,36 +230,36 @@ fn is_fan(new: &[Span]) -> bool
 }
 
 // Whether the first of the others turns up from the span, or there is none.
-fn does_first_turn(span: &Span, others: &[Span]) -> bool
-    ensures { IsTrue result → FirstHas (TurnsUp span.now) others.now }
+fn does_first_turn(spans: &[Span], span: &Span, others: &[u32]) -> bool
+    ensures { IsTrue result → FirstHas (TurnsUp span.now) (spans_in spans.now others.now) }
 {
     match others.split_first() {
-        Some((next, _)) => side(span, next.high.place) > 0,
+        Some((next, _)) => side(span, numbered(spans, *next).high.place) > 0,
         None => true,
     }
 }
 
 // Whether each span, with the new ones between those below and above, stays under its neighbour, where those below do and
 // those above do.
-fn are_linked_to(below: &[Span], new: &[Span], above: &[Span]) -> bool
-    ensures { IsTrue result → Chained EndsUnder below.now → Chained EndsUnder above.now → Chained EndsUnder (below.now ++ (new.now ++ above.now)) }
+fn are_linked_to(spans: &[Span], below: &[u32], new: &[u32], above: &[u32]) -> bool
+    ensures { IsTrue result → Chained EndsUnder (spans_in spans.now below.now) → Chained EndsUnder (spans_in spans.now above.now) → Chained EndsUnder (spans_in spans.now below.now ++ (spans_in spans.now new.now ++ spans_in spans.now above.now)) }
 {
     if new.is_empty() {
-        is_seam(below, above)
-    } else if is_seam(below, new) {
-        are_linked(new) && is_seam(new, above)
+        is_seam(spans, below, above)
+    } else if is_seam(spans, below, new) {
+        are_linked(spans, new) && is_seam(spans, new, above)
     } else {
         false
     }
 }
 
 // Whether each span stays under the next.
-fn are_linked(spans: &[Span]) -> bool
-    ensures { IsTrue result → Chained EndsUnder spans.now }
+fn are_linked(spans: &[Span], numbers: &[u32]) -> bool
+    ensures { IsTrue result → Chained EndsUnder (spans_in spans.now numbers.now) }
 {
-    let mut rest = spans;
-    while let Some((span, others)) = rest.split_first() {
-        if !is_under_next(span, others) {
+    let mut rest = numbers;
+    while let Some((number, others)) = rest.split_first() {
+        if !is_under_next(spans, &numbered(spans, *number), others) {
             return false;
         }
         rest = others;
@@ -243,21 +268,21 @@ fn are_linked(spans: &[Span]) -> bool
 }
 
 // Whether the last of the lower spans stays under the first of the upper ones, or there is none.
-fn is_seam(lower: &[Span], upper: &[Span]) -> bool
-    ensures { IsTrue result → LastHas (λ s. FirstHas (EndsUnder s) upper.now) lower.now }
+fn is_seam(spans: &[Span], lower: &[u32], upper: &[u32]) -> bool
+    ensures { IsTrue result → LastHas (λ s. FirstHas (EndsUnder s) (spans_in spans.now upper.now)) (spans_in spans.now lower.now) }
 {
     match lower.split_last() {
-        Some((span, _)) => is_under_next(span, upper),
+        Some((number, _)) => is_under_next(spans, &numbered(spans, *number), upper),
         None => true,
     }
 }
 
 // Whether the span stays under the first of these, or there is none.
-fn is_under_next(span: &Span, upper: &[Span]) -> bool
-    ensures { IsTrue result → FirstHas (EndsUnder span.now) upper.now }
+fn is_under_next(spans: &[Span], span: &Span, upper: &[u32]) -> bool
+    ensures { IsTrue result → FirstHas (EndsUnder span.now) (spans_in spans.now upper.now) }
 {
     match upper.split_first() {
-        Some((next, _)) => ends_under(span, next),
+        Some((next, _)) => ends_under(span, &numbered(spans, *next)),
         None => true,
     }
 }

@@ -29,7 +29,7 @@ pub fn sweep(alloc: Global, map: &ArcMap) -> Result<Swept, NoMemory>
     ensures clean { IfOk result (λ swept. (swept ≡ Swept.Clean) ↔ HasNoClash map.now) }
     ensures meets { (e f : EdgeRef) → result ≡ Ok (Swept.Meets e f) → IsClash map.now e f }
 {
-    if is_clean(alloc, map)? {
+    if is_clean(alloc, map, u64::MAX)? {
         return Ok(Swept::Clean);
     }
     let index = EdgeIndex::build(alloc, map)?;
@@ -55,9 +55,20 @@ pub fn check_by_sweep(alloc: Global, map: ArcMap) -> Result<Arranged, CheckError
     ensures edges { (e f : EdgeRef) → result ≡ Err (CheckError.Edges e f) → IsLeastClash map e f }
     ensures point { (k : ℕ) (e : EdgeRef) → result ≡ Err (CheckError.PointOnArc k e) → IsLeastPoint map k e }
 {
-    if !is_clean(alloc, &map)? {
+    if !is_clean(alloc, &map, u64::MAX)? {
         return check(alloc, map);
     }
+    without_clash(alloc, map)
+}
+
+// What the feature points tell of a map in which no two edges clash.
+pub fn without_clash(alloc: Global, map: ArcMap) -> Result<Arranged, CheckError>
+    requires { HasNoClash map }
+    ensures same { IfOk result (λ arranged. arranged ≡ map) }
+    ensures arranged { IfOk result (λ arranged. IsArranged map) }
+    ensures edges { (e f : EdgeRef) → result ≡ Err (CheckError.Edges e f) → IsLeastClash map e f }
+    ensures point { (k : ℕ) (e : EdgeRef) → result ≡ Err (CheckError.PointOnArc k e) → IsLeastPoint map k e }
+{
     let slabs = EdgeSlabs::build(alloc, &map)?;
     if let Some((town, e)) = least_town(&map, &slabs) {
         return Err(CheckError::PointOnArc(town, e));

@@ -4,12 +4,14 @@
 mod active;
 mod check;
 mod clashes;
+mod crowds;
 mod places;
 mod spans;
 mod towns;
 mod walk;
 
 pub use check::{Swept, check_by_sweep, sweep};
+pub use crowds::{check_map, hold_map};
 
 #[cfg(test)]
 mod tests;

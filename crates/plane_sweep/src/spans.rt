@@ -3,7 +3,7 @@ ghost use Rattle.std.specs.Prelude.{◌≡◌, ◌↔◌, ◌<◌, ◌≤◌, �
 ghost use Rattle.arc_map.specs.Arranged.{nowhere};
 ghost use Rattle.arc_map.specs.Map.{IsArc};
 ghost use Rattle.plane_sweep.specs.Meeting.{MayJoin};
-ghost use Rattle.plane_sweep.specs.Spans.{AreSpansBefore, AreSpansOf, IsSpanAt};
+ghost use Rattle.plane_sweep.specs.Spans.{AreSpansBefore, AreSpansOf, IsSpanAt, no_span, span_of, spans_in};
 
 use arc_map::{ArcMap, EdgeRef, NoMemory};
 use grid_exact::{Frame, Point, area, order, precedes};
@@ -51,6 +51,46 @@ fn by_low(e: &Span, f: &Span) -> Ordering {
     match order(Frame::Plain, e.low.place, f.low.place) {
         Ordering::Equal => 0.cmp(&area(e.low.place, e.high.place, f.high.place)),
         other => other,
+    }
+}
+
+// The numbers of the spans, in order.
+pub fn numbers_of(alloc: Global, spans: &[Span]) -> Result<Vec<u32>, AllocError>
+    requires { length spans.now < 2 ^ 32 }
+    ensures { IfOk result (λ numbers. spans_in spans.now numbers.items ≡ spans.now) }
+{
+    let mut numbers = Vec::new(alloc);
+    for number in 0..spans.len() {
+        numbers.push(number as u32)?;
+    }
+    Ok(numbers)
+}
+
+// The span with the number, or one at no edge where there is none.
+#[inline]
+pub fn numbered(spans: &[Span], number: u32) -> Span
+    ensures { result ≡ span_of spans.now number }
+{
+    match spans.get(number as usize) {
+        Some(span) => *span,
+        None => none(),
+    }
+}
+
+// A span at no edge.
+fn none() -> Span
+    ensures { result ≡ no_span }
+{
+    let corner = Corner {
+        arc: 0,
+        at: 0,
+        is_end: false,
+        place: Point::new(0, 0).unwrap(),
+    };
+    Span {
+        low: corner,
+        high: corner,
+        edge: EdgeRef { arc: 0, at: 0 },
     }
 }
 

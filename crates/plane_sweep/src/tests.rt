@@ -89,6 +89,25 @@ fn maps_of_two_edges(rt: HostRuntime) -> Result<(), Fail> {
     Ok(())
 }
 
+#[test]
+fn a_map_of_two_edges_either_way(rt: HostRuntime) -> Result<(), Fail> {
+    let first = EdgeRef { arc: 0, at: 0 };
+    let second = EdgeRef { arc: 1, at: 0 };
+    let (a, b, town) = (point((0, 0))?, point((4, 0))?, point((9, 9))?);
+    let (c, d) = (point((2, -2))?, point((2, 2))?);
+    assert!(rt; a != b);
+    assert!(rt; c != d);
+    match check_map(rt.alloc(), map_of(rt.alloc(), a, b, c, d, town)?) {
+        Err(e) => assert!(rt; same(&e, &CheckError::Edges(first, second))),
+        Ok(_) => Err("another answer")?,
+    }
+    match hold_map(rt.alloc(), map_of(rt.alloc(), a, b, c, d, town)?) {
+        Ok(partly) => assert!(rt; partly.held().has(0) && partly.held().has(1)),
+        Err(_) => Err("another answer")?,
+    }
+    Ok(())
+}
+
 fn same(a: &CheckError, b: &CheckError) -> bool {
     match (a, b) {
         (CheckError::Edges(e, f), CheckError::Edges(g, h)) => e == g && f == h,

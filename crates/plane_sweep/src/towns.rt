@@ -8,8 +8,8 @@ ghost use Rattle.sweep_index.specs.Slabs.{AreEdgesAt};
 ghost use Rattle.arrangement_check.specs.Least.{HasNoTown, IsNew};
 ghost use Rattle.plane_sweep.specs.Answers.{IsLeastOn, IsOnNone};
 
-use crate::clashes::town_is_on;
 use arc_map::{ArcMap, EdgeRef};
+use arrangement_check::town_is_on;
 use grid_exact::Point;
 use sweep_index::{EdgeSlabs, EdgeWalk};
 

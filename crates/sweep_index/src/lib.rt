@@ -3,15 +3,18 @@
 
 mod area;
 mod bands;
+mod dealing;
 mod edges;
 mod entries;
 mod grid;
 mod index;
+mod ordering;
 mod slabs;
 mod sweep;
 mod things;
 mod walk;
 
+pub use dealing::deal;
 pub use edges::{EdgeIndex, PairWalk, TownWalk};
 pub use index::{Index, Item, Owner};
 pub use slabs::{EdgeSlabs, EdgeWalk};

@@ -67,7 +67,7 @@ fn first_met(head: &Banded, others: &[Banded], from: usize, height: u32) -> Opti
 }
 
 // Whether the other thing, and so each later one, meets the head no more.
-fn is_past(head: &Banded, other: &Banded) -> bool
+pub fn is_past(head: &Banded, other: &Banded) -> bool
     ensures { result ≡ is_behind head.now other.now }
 {
     other.band != head.band || head.extent.east < other.extent.west

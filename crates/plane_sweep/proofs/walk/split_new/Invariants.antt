@@ -2,7 +2,7 @@ use Rattle.std.proofs.Common.{◌-◌, ◌≤◌, length}
 use Rattle.plane_sweep.proofs.walk.split_new.Given as goal
 
 abbrev pub invariant-loop-count : goal.invariant-loop-count
-invariant-loop-count l = l.count ≤ length l.spans
+invariant-loop-count l = l.count ≤ length l.numbers
 
 abbrev pub decreases-loop-count : goal.decreases-loop-count
-decreases-loop-count l = length l.spans - l.count
+decreases-loop-count l = length l.numbers - l.count

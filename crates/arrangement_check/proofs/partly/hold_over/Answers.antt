@@ -4,7 +4,7 @@ use Rattle.std.proofs.lemmas.List.{with_items_is}
 use Rattle.arc_map.specs.Arranged.{IsHeld}
 use Rattle.arrangement_check.specs.Marks.{IsMarked, MarksClashes, MarksHeld}
 use Rattle.arrangement_check.proofs.Marking.{arranged_beside, held_list}
-use Rattle.arrangement_check.proofs.partly.hold.Goals as goal
+use Rattle.arrangement_check.proofs.partly.hold_over.Goals as goal
 
 pub mark_towns-requires-clause-only : goal.mark_towns-requires-clause-only
 mark_towns-requires-clause-only c =
