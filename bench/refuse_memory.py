@@ -3,9 +3,9 @@
 
     python3 bench/refuse_memory.py PROGRAM MAP BOUND
 
-PROGRAM is the built command, MAP an arranged map. `simplify`, `layers`, `check` and `faces` of
-the map, `make` and `demo` are run once with all memory, and then with the first, second, third
-.. demand refused, until no demand is left. Each run has to end with status 10 and nothing on
+PROGRAM is the built command, MAP an arranged map with a polygon. `simplify`, `layers`, `check`,
+`faces`, `dissolve` and `pyramid` of the map, `make` and `demo` are run once with all memory, and
+then with the first, second, third .. demand refused, until no demand is left. Each run has to end with status 10 and nothing on
 standard output, and with no message but `no memory`. One other end is right: as with all
 memory, where a list that is refused a generous growth asks again for what it needs. Wants gcc,
 for the small library that refuses."""
@@ -119,6 +119,8 @@ def forms(program: str, path: str, bound: str, folder: pathlib.Path) -> list[lis
         ["layers", bound, path],
         ["check", bound, path, made["simplify"], made["layers"]],
         ["faces", path],
+        ["dissolve", "0", path],
+        ["pyramid", f"{bound},{int(bound) + 4}", path],
         ["make", "1", "1", "7"],
         ["demo", "1", "1", "7", "100"],
     ]

@@ -1,4 +1,4 @@
-//! The command-line tool: `simplify`, `layers`, `check`, `faces`, `make` and `demo`, over files and the standard streams.
+//! The command-line tool: what the words ask for, over files and the standard streams.
 #![tactic(auto)]
 
 mod outside;

@@ -19,10 +19,13 @@ use Rattle.top_call.specs.declared.status.Role.{Role}
 use Rattle.top_call.specs.declared.status.Role.TheVariants.{File, Out, Cert}
 use Rattle.top_call.specs.declared.status.Status.{Status}
 use Rattle.top_call.specs.declared.status.Status.TheVariants.{TooLarge}
-use Rattle.top_call.specs.Words.{Form, Simplify, Layers, Check, Faces, Make, Demo, Dissolve, form_of}
+use Rattle.top_call.specs.Words.{Form, Simplify, Layers, Check, Faces, Make, Demo, Dissolve, Pyramid, form_of}
 use Rattle.top_call.specs.Reading.{Named, named, limit_of, IsWithin, IsPast, IsFirstPast, IsFirstUnheld, Read, read_as, AreRead, AreShort}
 use Rattle.top_call.specs.Maps.{IsRefusal, scales_of}
-use Rattle.top_call.specs.Answers.{Answer, refused, done, told, plain, terms_of, version_of, text_with, faces_text, position_count, demo_text, IsRun, IsSimplified, IsCertified, IsFaced, IsDemoed, IsMapAnswer, Refused, Written, IsCheckAnswer, RefusedFile, Told, IsChecked, NotCertificate, IsRefuted, IsCompared, IsDissolveAnswer, IsWorkAnswer, IsFormAnswer, NotHeld, TooLong, Worked, IsAnswerBy}
+use Rattle.top_call.specs.Answers.{Answer, refused, done, told, plain, terms_of, version_of, text_with, faces_text, position_count}
+use Rattle.top_call.specs.Answers.{demo_text, IsRun, IsSimplified, IsCertified, IsFaced, IsDemoed, IsMapAnswer, Refused, Written}
+use Rattle.top_call.specs.Answers.{IsCheckAnswer, RefusedFile, Told, IsChecked, NotCertificate, IsRefuted, IsCompared, IsDissolveAnswer}
+use Rattle.top_call.specs.Answers.{IsRanked, IsWorkAnswer, IsFormAnswer, NotHeld, TooLong, Worked, IsAnswerBy}
 use Rattle.top_call.specs.Laws.{AnswerIsOne}
 use Rattle.top_call.proofs.Borders.{dissolve_answer_is_one}
 use Rattle.top_call.proofs.NotRefused.{loaded_not_refused}
@@ -31,6 +34,7 @@ use Rattle.top_call.proofs.OneRefusal.{refusal_is_one}
 use Rattle.top_call.proofs.OneTree.{text_has_one_topology}
 use Rattle.top_call.proofs.OneVerdict.{verdict_is_one}
 use Rattle.top_call.proofs.Promised.{within_not_past}
+use Rattle.top_call.proofs.Ranked.{ranked_is_one}
 
 -- ---- one reading
 
@@ -75,10 +79,13 @@ record OneRun (t u : TopologyRead) (held arcs : List ℕ) (after other : Map) (r
   outcome : after ≡ other
   records_are : records ≡ others
 
-one_run : (options : Options) (bound : ℤ) (text : List ℕ) (t u : TopologyRead) (held arcs : List ℕ) (after other : Map) (records others : List Record) → IsRun options bound text t held after records → IsRun options bound text u arcs other others → OneRun t u held arcs after other records others
+one_run : (options : Options) (bound : ℤ) (text : List ℕ) (t u : TopologyRead) (held arcs : List ℕ) (after other : Map)
+    (records others : List Record) → IsRun options bound text t held after records → IsRun options bound text u arcs other others
+    → OneRun t u held arcs after other records others
 one_run options bound text t u held arcs after other records others first second =
     let same = loaded_is_one options text t u held arcs first.loaded second.loaded in
-    let by_map = subst (λ (v : TopologyRead). IsOutcome v.map (terms_of options bound arcs) other others) (sym same.topology) second.outcome in
+    let by_map =
+        subst (λ (v : TopologyRead). IsOutcome v.map (terms_of options bound arcs) other others) (sym same.topology) second.outcome in
     let by_held = subst (λ (ns : List ℕ). IsOutcome t.map (terms_of options bound ns) other others) (sym same.held_arcs) by_map in
     let one = outcome_is_one t.map (terms_of options bound held) after other records others first.outcome by_held in
     record { topology = same.topology; held_arcs = same.held_arcs; outcome = one.0; records_are = one.1 }
@@ -86,16 +93,23 @@ one_run options bound text t u held arcs after other records others first second
 simplified_is_one : (options : Options) (bound : ℤ) (text x y : List ℕ) → IsSimplified options bound text x
     → IsSimplified options bound text y → x ≡ y
 simplified_is_one options bound text x y first second =
-    let one = one_run options bound text first.topology second.topology first.held second.held first.after second.after first.records second.records first.run second.run in
-    first.written ∙ ap (λ (t : TopologyRead). text_with text t first.after) one.topology ∙ ap (text_with text second.topology) one.outcome ∙ sym second.written
+    let one =
+        one_run options bound text first.topology second.topology first.held second.held first.after second.after first.records
+        second.records first.run second.run in
+    first.written ∙ ap (λ (t : TopologyRead). text_with text t first.after) one.topology ∙ ap (text_with text second.topology) one.outcome
+        ∙ sym second.written
 
 certified_is_one : (options : Options) (bound : ℤ) (text x y : List ℕ) → IsCertified options bound text x → IsCertified options bound text y
     → x ≡ y
 certified_is_one options bound text x y first second =
-    let one = one_run options bound text first.topology second.topology first.held second.held first.after second.after first.records second.records first.run second.run in
+    let one =
+        one_run options bound text first.topology second.topology first.held second.held first.after second.after first.records
+        second.records first.run second.run in
     first.written
-    ∙ ap (λ (held : List ℕ). certificate_text (content (version_of options) bound (scales_of options.weights) held first.records)) one.held_arcs
-    ∙ ap (λ (records : List Record). certificate_text (content (version_of options) bound (scales_of options.weights) second.held records)) one.records_are
+    ∙ ap (λ (held : List ℕ). certificate_text (content (version_of options) bound (scales_of options.weights) held first.records))
+        one.held_arcs
+    ∙ ap (λ (records : List Record). certificate_text (content (version_of options) bound (scales_of options.weights) second.held records))
+        one.records_are
     ∙ sym second.written
 
 faced_is_one : (text x y : List ℕ) → IsFaced text x → IsFaced text y → x ≡ y
@@ -105,7 +119,9 @@ faced_is_one text x y first second =
 
 demoed_is_one : (rows cols seed : ℕ) (bound : ℤ) (x y : List ℕ) → IsDemoed rows cols seed bound x → IsDemoed rows cols seed bound y → x ≡ y
 demoed_is_one rows cols seed bound x y first second =
-    let one = one_run plain bound (made rows cols seed) first.topology second.topology first.held second.held first.after second.after first.records second.records first.run second.run in
+    let one =
+        one_run plain bound (made rows cols seed) first.topology second.topology first.held second.held first.after second.after
+        first.records second.records first.run second.run in
     let here = first.run.outcome in
     let there = second.run.outcome in
     let chains = subst (λ (t : TopologyRead). AreChainsIn t.map there.refs) (sym one.topology) there.chains in
@@ -119,7 +135,8 @@ demoed_is_one rows cols seed bound x y first second =
 -- what is written of a text is one, and a text of which something is written is not refused
 map_answer_is_one : (options : Options) (text : List ℕ) (W : List ℕ → Type 0) (a b : Answer) → ((x y : List ℕ) → W x → W y → x ≡ y)
     → ((x : List ℕ) (s : Status) → W x → IsRefusal options text s → ⊥) → IsMapAnswer options text W a → IsMapAnswer options text W b → a ≡ b
-map_answer_is_one options text W a b one never (Refused s why is) (Refused u also too) = is ∙ ap refused (refusal_is_one options text s u why also) ∙ sym too
+map_answer_is_one options text W a b one never (Refused s why is) (Refused u also too) =
+    is ∙ ap refused (refusal_is_one options text s u why also) ∙ sym too
 map_answer_is_one options text W a b one never (Refused s why is) (Written y written too) = absurd (never y s written why)
 map_answer_is_one options text W a b one never (Written x written is) (Refused u also too) = absurd (never x u written also)
 map_answer_is_one options text W a b one never (Written x written is) (Written y also too) = is ∙ ap done (one x y written also) ∙ sym too
@@ -127,16 +144,23 @@ map_answer_is_one options text W a b one never (Written x written is) (Written y
 -- a verdict is told of a text that loads
 checked_not_refused : (options : Options) (bound : ℤ) (read : Read) (v : Verdict) (s : Status) → IsChecked options bound read v
     → IsRefusal options read.file s → ⊥
-checked_not_refused options bound read v s (NotCertificate t held loaded none is) why = loaded_not_refused options read.file t held s loaded why
-checked_not_refused options bound read v s (IsRefuted t reason after judged is) why = loaded_not_refused options read.file t judged.held s judged.loaded why
-checked_not_refused options bound read v s (IsCompared t after judged found) why = loaded_not_refused options read.file t judged.held s judged.loaded why
+checked_not_refused options bound read v s (NotCertificate t held loaded none is) why =
+    loaded_not_refused options read.file t held s loaded why
+checked_not_refused options bound read v s (IsRefuted t reason after judged is) why =
+    loaded_not_refused options read.file t judged.held s judged.loaded why
+checked_not_refused options bound read v s (IsCompared t after judged found) why =
+    loaded_not_refused options read.file t judged.held s judged.loaded why
 
 check_answer_is_one : (options : Options) (bound : ℤ) (read : Read) (a b : Answer) → IsCheckAnswer options bound read a
     → IsCheckAnswer options bound read b → a ≡ b
-check_answer_is_one options bound read a b (RefusedFile s why is) (RefusedFile u also too) = is ∙ ap refused (refusal_is_one options read.file s u why also) ∙ sym too
-check_answer_is_one options bound read a b (RefusedFile s why is) (Told w checked too) = absurd (checked_not_refused options bound read w s checked why)
-check_answer_is_one options bound read a b (Told v checked is) (RefusedFile u also too) = absurd (checked_not_refused options bound read v u checked also)
-check_answer_is_one options bound read a b (Told v checked is) (Told w also too) = is ∙ ap told (verdict_is_one options bound read v w checked also) ∙ sym too
+check_answer_is_one options bound read a b (RefusedFile s why is) (RefusedFile u also too) =
+    is ∙ ap refused (refusal_is_one options read.file s u why also) ∙ sym too
+check_answer_is_one options bound read a b (RefusedFile s why is) (Told w checked too) =
+    absurd (checked_not_refused options bound read w s checked why)
+check_answer_is_one options bound read a b (Told v checked is) (RefusedFile u also too) =
+    absurd (checked_not_refused options bound read v u checked also)
+check_answer_is_one options bound read a b (Told v checked is) (Told w also too) =
+    is ∙ ap told (verdict_is_one options bound read v w checked also) ∙ sym too
 
 same_reads : (r s : Read) → r.file ≡ s.file → r.out ≡ s.out → r.cert ≡ s.cert → r ≡ s
 same_reads r s file out cert =
@@ -152,20 +176,24 @@ work_answer_is_one : (f : Form) (texts : Texts) (read other : Read) (a b : Answe
     → AreRead texts (named f) other → IsWorkAnswer f read a → IsWorkAnswer f other b → a ≡ b
 work_answer_is_one (Simplify options bound file) texts read other a b are also first second =
     let same = same_read (text_of texts file) read.file other.file are.0 also.0 in
-    map_answer_is_one options read.file (IsSimplified options bound read.file) a b (simplified_is_one options bound read.file) (λ x s is. loaded_not_refused options read.file is.topology is.held s is.run.loaded) first
+    map_answer_is_one options read.file (IsSimplified options bound read.file) a b (simplified_is_one options bound read.file)
+        (λ x s is. loaded_not_refused options read.file is.topology is.held s is.run.loaded) first
     (subst (λ (xs : List ℕ). IsMapAnswer options xs (IsSimplified options bound xs) b) same second)
 work_answer_is_one (Layers options bound file) texts read other a b are also first second =
     let same = same_read (text_of texts file) read.file other.file are.0 also.0 in
-    map_answer_is_one options read.file (IsCertified options bound read.file) a b (certified_is_one options bound read.file) (λ x s is. loaded_not_refused options read.file is.topology is.held s is.run.loaded) first
+    map_answer_is_one options read.file (IsCertified options bound read.file) a b (certified_is_one options bound read.file)
+        (λ x s is. loaded_not_refused options read.file is.topology is.held s is.run.loaded) first
     (subst (λ (xs : List ℕ). IsMapAnswer options xs (IsCertified options bound xs) b) same second)
 work_answer_is_one (Check options bound file out cert) texts read other a b are also first second =
     let of_file = same_read (text_of texts file) read.file other.file are.0 also.0 in
     let of_out = same_read (text_of texts out) read.out other.out are.1.0 also.1.0 in
     let of_cert = same_read (text_of texts cert) read.cert other.cert are.1.1.0 also.1.1.0 in
-    check_answer_is_one options bound read a b first (subst (λ (r : Read). IsCheckAnswer options bound r b) (same_reads other read of_file of_out of_cert) second)
+    check_answer_is_one options bound read a b first (subst (λ (r : Read). IsCheckAnswer options bound r b)
+        (same_reads other read of_file of_out of_cert) second)
 work_answer_is_one (Faces file) texts read other a b are also first second =
     let same = same_read (text_of texts file) read.file other.file are.0 also.0 in
-    map_answer_is_one plain read.file (IsFaced read.file) a b (faced_is_one read.file) (λ x s is. loaded_not_refused plain read.file is.topology is.held s is.loaded) first
+    map_answer_is_one plain read.file (IsFaced read.file) a b (faced_is_one read.file)
+        (λ x s is. loaded_not_refused plain read.file is.topology is.held s is.loaded) first
     (subst (λ (xs : List ℕ). IsMapAnswer plain xs (IsFaced xs) b) same second)
 work_answer_is_one (Make rows cols seed) texts read other a b are also first second = first ∙ sym second
 work_answer_is_one (Demo rows cols seed bound) texts read other a b are also first second =
@@ -173,6 +201,11 @@ work_answer_is_one (Demo rows cols seed bound) texts read other a b are also fir
 work_answer_is_one (Dissolve polygons file) texts read other a b are also first second =
     let same = same_read (text_of texts file) read.file other.file are.0 also.0 in
     dissolve_answer_is_one polygons read.file a b first (subst (λ (xs : List ℕ). IsDissolveAnswer polygons xs b) same second)
+work_answer_is_one (Pyramid bounds file) texts read other a b are also first second =
+    let same = same_read (text_of texts file) read.file other.file are.0 also.0 in
+    map_answer_is_one plain read.file (IsRanked bounds read.file) a b (ranked_is_one bounds read.file)
+    (λ x s is. loaded_not_refused plain read.file is.topology is.held s is.loaded) first
+    (subst (λ (xs : List ℕ). IsMapAnswer plain xs (IsRanked bounds xs) b) same second)
 
 -- ---- the whole
 
@@ -183,10 +216,13 @@ form_answer_is_one f texts a b (NotHeld none is) (Worked read are short work) = 
 form_answer_is_one f texts a b (TooLong role past is) (NotHeld none too) = absurd (not_unheld_and_past texts (named f) role none past)
 form_answer_is_one f texts a b (TooLong role past is) (TooLong other also too) =
     is ∙ ap (λ (r : Role). refused (TooLarge (Text r))) (past_is_one texts (named f) role other past also) ∙ sym too
-form_answer_is_one f texts a b (TooLong role past is) (Worked read are short work) = absurd (read_not_past texts (named f) read role are short past)
+form_answer_is_one f texts a b (TooLong role past is) (Worked read are short work) =
+    absurd (read_not_past texts (named f) read role are short past)
 form_answer_is_one f texts a b (Worked read are short work) (NotHeld none too) = absurd (read_not_unheld texts (named f) read are none)
-form_answer_is_one f texts a b (Worked read are short work) (TooLong role past too) = absurd (read_not_past texts (named f) read role are short past)
-form_answer_is_one f texts a b (Worked read are short work) (Worked other also few again) = work_answer_is_one f texts read other a b are also work again
+form_answer_is_one f texts a b (Worked read are short work) (TooLong role past too) =
+    absurd (read_not_past texts (named f) read role are short past)
+form_answer_is_one f texts a b (Worked read are short work) (Worked other also few again) =
+    work_answer_is_one f texts read other a b are also work again
 
 answer_by_is_one : (form : Option Form) (texts : Texts) (a b : Answer) → IsAnswerBy form texts a → IsAnswerBy form texts b → a ≡ b
 answer_by_is_one None texts a b first second = first ∙ sym second

@@ -1,7 +1,9 @@
 -- The value of `arcs` stands in the text of its topology.
 use Rattle.std.specs.Prelude.{codes, if◌then◌else◌, ◌⊎◌}
 use Rattle.std.proofs.Common.{◌≡◌, ◌∙◌, ℕ, ◌+◌, ◌≤◌, Bool, true, false, bytes_eq, List, length, Ok, sym, ap, subst, inl, inr}
-use Rattle.json_scan.specs.Tree.{Extent, extent_of, Tree, NullAt, FalseAt, TrueAt, NumberAt, TextAt, ListAt, ObjectAt, Entries, NoEntries, NextEntry, NodeIs, EntriesAre, after_at, Lookup, NowhereIn, OnceIn, TwiceIn, named, at_second, at_first, lookup, document_tree}
+use Rattle.json_scan.specs.Tree.{Extent, extent_of, Tree, NullAt, FalseAt, TrueAt, NumberAt, TextAt, ListAt, ObjectAt, Entries, NoEntries}
+use Rattle.json_scan.specs.Tree.{NextEntry, NodeIs, EntriesAre, after_at, Lookup, NowhereIn, OnceIn, TwiceIn, named, at_second, at_first}
+use Rattle.json_scan.specs.Tree.{lookup, document_tree}
 use Rattle.json_scan.specs.View.{ScanView}
 use Rattle.json_scan.proofs.Nodes.{tree-node}
 use Rattle.json_scan.proofs.Trees.{document-is}
@@ -54,7 +56,8 @@ object_lies s k end holder members t are h =
     let arced = then-ok (arcs_value headed.0 valued.0) _ t valued.2 in
     let mapped = then-ok (map_of headed.0 arced.0 holder members) _ t arced.2 in
     let same = same-ok (record { map = mapped.0; arcs_at = extent_of valued.0 }) t mapped.2 in
-    let value = found_is_value s (codes "arcs") k end members valued.0 are (found_once holder valued.0 (lookup (codes "arcs") members) valued.1) in
+    let value =
+        found_is_value s (codes "arcs") k end members valued.0 are (found_once holder valued.0 (lookup (codes "arcs") members) valued.1) in
     let node = tree-node s value.0 valued.0 value.1 in
     subst (λ (u : TopologyRead). LiesWithin s u.arcs_at) same (record { forwards = node.long; within = node.in_text })
 

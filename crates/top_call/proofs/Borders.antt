@@ -1,5 +1,6 @@
 -- The border of polygons: which are missing, and the one answer.
-use Rattle.std.proofs.Common.{◌≡◌, ◌≢◌, ◌∙◌, ℕ, ◌<◌, Bool, true, false, cond, nat_lt, List, [], ◌∷◌, Option, None, Some, Result, Ok, Err, IfOk, IfErr, All, length, get_or, refl, sym, ap, subst, inl, inr, arith, ltb-true, ltb-false, lt-ltb}
+use Rattle.std.proofs.Common.{◌≡◌, ◌≢◌, ◌∙◌, ℕ, ◌<◌, Bool, true, false, cond, nat_lt, List, [], ◌∷◌, Option, None, Some, Result, Ok, Err}
+use Rattle.std.proofs.Common.{IfOk, IfErr, All, length, get_or, refl, sym, ap, subst, inl, inr, arith, ltb-true, ltb-false, lt-ltb}
 use Rattle.std.specs.Prelude.{◌⊎◌, ℤ}
 use Rattle.std.specs.Global.{Vec}
 use Rattle.std.proofs.lemmas.Bool.{cases_Bool}
@@ -18,7 +19,8 @@ use Rattle.top_call.specs.declared.forms.Options.{Options}
 use Rattle.top_call.specs.declared.status.Status.{Status}
 use Rattle.top_call.specs.declared.status.Status.TheVariants.{Done, NoMemory, NoPolygon}
 use Rattle.top_call.specs.Maps.{IsLoaded, IsRefusal, IsRefused}
-use Rattle.top_call.specs.Answers.{Answer, done, refused, plain, first_missing, IsBorderText, IsDissolved, IsMissing, IsDissolveAnswer, RefusedMap, Missed, Dissolved}
+use Rattle.top_call.specs.Answers.{Answer, done, refused, plain, first_missing, IsBorderText, IsDissolved, IsMissing, IsDissolveAnswer}
+use Rattle.top_call.specs.Answers.{RefusedMap, Missed, Dissolved}
 use Rattle.top_call.specs.Endings.{IsMapStatus, Replies, Settles}
 use Rattle.top_call.specs.Headline.{IsBorderOf}
 use Rattle.top_call.proofs.NotRefused.{loaded_not_refused}
@@ -29,7 +31,8 @@ use Rattle.top_call.proofs.Settled.{settled_with, settled_refused}
 
 -- ---- which polygons a map has
 
-missing_by : (count k : ℕ) (ks : List ℕ) (o : Option ℕ) (b : Bool) → nat_lt k count ≡ b → first_missing count (k ∷ ks) ≡ o → cond b (first_missing count ks) (Some k) ≡ o
+missing_by : (count k : ℕ) (ks : List ℕ) (o : Option ℕ) (b : Bool) → nat_lt k count ≡ b → first_missing count (k ∷ ks) ≡ o
+    → cond b (first_missing count ks) (Some k) ≡ o
 missing_by count k ks o b is e = subst (λ (c : Bool). cond c (first_missing count ks) (Some k) ≡ o) is e
 
 -- where none is missing, each is there
@@ -43,22 +46,26 @@ none_missing count (k ∷ ks) none = elim (cases_Bool (nat_lt k count)) [
 -- where each is there, none is missing
 pub all_there : (count : ℕ) (ks : List ℕ) → All (λ k. k < count) ks → first_missing count ks ≡ None
 all_there count [] all = refl
-all_there count (k ∷ ks) all = rw (lt-ltb k count (All-head (λ j. j < count) k ks all)) (all_there count ks (All-tail (λ j. j < count) k ks all))
+all_there count (k ∷ ks) all =
+    rw (lt-ltb k count (All-head (λ j. j < count) k ks all)) (all_there count ks (All-tail (λ j. j < count) k ks all))
 
 -- each of them is a polygon with even ends where all polygons are
-pub even_chosen : (m : Map) (ks : List ℕ) → All (HasEvenEnds m.arcs) m.polygons → All (λ k. k < length m.polygons) ks → All (λ k. HasEvenEnds m.arcs (get_or m.polygons k [])) ks
+pub even_chosen : (m : Map) (ks : List ℕ) → All (HasEvenEnds m.arcs) m.polygons → All (λ k. k < length m.polygons) ks
+    → All (λ k. HasEvenEnds m.arcs (get_or m.polygons k [])) ks
 even_chosen m ks even known = λ at d within. All-get_or (HasEvenEnds m.arcs) m.polygons (get_or ks at d) [] (known at d within) even
 
 -- ---- one answer
 
 border_text_is_one : (m : Map) (polygons x y : List ℕ) → IsBorderText m polygons x → IsBorderText m polygons y → x ≡ y
 border_text_is_one m polygons x y first second =
-    first.written ∙ ap rings_text (same-rings m (odd_arcs m polygons) first.rings second.rings first.border second.border) ∙ sym second.written
+    first.written ∙ ap rings_text (same-rings m (odd_arcs m polygons) first.rings second.rings first.border second.border)
+        ∙ sym second.written
 
 dissolved_is_one : (polygons text x y : List ℕ) → IsDissolved polygons text x → IsDissolved polygons text y → x ≡ y
 dissolved_is_one polygons text x y first second =
     let same = text_has_one_topology text first.topology second.topology first.loaded.topology second.loaded.topology in
-    border_text_is_one first.topology.map polygons x y first.is_text (subst (λ (t : TopologyRead). IsBorderText t.map polygons y) (sym same) second.is_text)
+    border_text_is_one first.topology.map polygons x y first.is_text
+        (subst (λ (t : TopologyRead). IsBorderText t.map polygons y) (sym same) second.is_text)
 
 missing_is_one : (polygons text : List ℕ) (j k : ℕ) → IsMissing polygons text j → IsMissing polygons text k → j ≡ k
 missing_is_one polygons text j k first second =
@@ -70,26 +77,39 @@ not_missing polygons text x k is missing =
     let same = text_has_one_topology text is.topology missing.topology is.loaded.topology missing.loaded.topology in
     none-some k (sym is.known ∙ ap (λ (t : TopologyRead). first_missing (length t.map.polygons) polygons) same ∙ missing.first)
 
-pub dissolve_answer_is_one : (polygons text : List ℕ) (a b : Answer) → IsDissolveAnswer polygons text a → IsDissolveAnswer polygons text b → a ≡ b
-dissolve_answer_is_one polygons text a b (RefusedMap s why is) (RefusedMap u also too) = is ∙ ap refused (refusal_is_one plain text s u why also) ∙ sym too
-dissolve_answer_is_one polygons text a b (RefusedMap s why is) (Missed k missing too) = absurd (loaded_not_refused plain text missing.topology missing.held s missing.loaded why)
-dissolve_answer_is_one polygons text a b (RefusedMap s why is) (Dissolved y by too) = absurd (loaded_not_refused plain text by.topology by.held s by.loaded why)
-dissolve_answer_is_one polygons text a b (Missed j missing is) (RefusedMap u also too) = absurd (loaded_not_refused plain text missing.topology missing.held u missing.loaded also)
-dissolve_answer_is_one polygons text a b (Missed j missing is) (Missed k also too) = is ∙ ap (λ (n : ℕ). refused (NoPolygon n)) (missing_is_one polygons text j k missing also) ∙ sym too
+pub dissolve_answer_is_one : (polygons text : List ℕ) (a b : Answer) → IsDissolveAnswer polygons text a → IsDissolveAnswer polygons text b
+    → a ≡ b
+dissolve_answer_is_one polygons text a b (RefusedMap s why is) (RefusedMap u also too) =
+    is ∙ ap refused (refusal_is_one plain text s u why also) ∙ sym too
+dissolve_answer_is_one polygons text a b (RefusedMap s why is) (Missed k missing too) =
+    absurd (loaded_not_refused plain text missing.topology missing.held s missing.loaded why)
+dissolve_answer_is_one polygons text a b (RefusedMap s why is) (Dissolved y by too) =
+    absurd (loaded_not_refused plain text by.topology by.held s by.loaded why)
+dissolve_answer_is_one polygons text a b (Missed j missing is) (RefusedMap u also too) =
+    absurd (loaded_not_refused plain text missing.topology missing.held u missing.loaded also)
+dissolve_answer_is_one polygons text a b (Missed j missing is) (Missed k also too) =
+    is ∙ ap (λ (n : ℕ). refused (NoPolygon n)) (missing_is_one polygons text j k missing also) ∙ sym too
 dissolve_answer_is_one polygons text a b (Missed j missing is) (Dissolved y by too) = absurd (not_missing polygons text y j by missing)
-dissolve_answer_is_one polygons text a b (Dissolved x by is) (RefusedMap u also too) = absurd (loaded_not_refused plain text by.topology by.held u by.loaded also)
+dissolve_answer_is_one polygons text a b (Dissolved x by is) (RefusedMap u also too) =
+    absurd (loaded_not_refused plain text by.topology by.held u by.loaded also)
 dissolve_answer_is_one polygons text a b (Dissolved x by is) (Missed k missing too) = absurd (not_missing polygons text x k by missing)
-dissolve_answer_is_one polygons text a b (Dissolved x by is) (Dissolved y also too) = is ∙ ap done (dissolved_is_one polygons text x y by also) ∙ sym too
+dissolve_answer_is_one polygons text a b (Dissolved x by is) (Dissolved y also too) =
+    is ∙ ap done (dissolved_is_one polygons text x y by also) ∙ sym too
 
 -- ---- how the run ends
 
-pub dissolve_settles : {S : Type 0} (written : S → List ℕ) (old new : S) (polygons text file : List ℕ) (tells : Bool) (made : Result (Vec ℕ) Status) (result : Status) → text ≡ file → IfOk made (λ b. IsDissolveAnswer polygons text (done b.items)) → IfErr made (λ s. (s ≡ NoMemory) ⊎ IsDissolveAnswer polygons text (refused s)) → IfErr made IsMapStatus → IfOk made (λ b. Replies tells (written old) (written new) b.items Done result) → IfErr made (λ s. (result ≡ s) × (new ≡ old)) → Settles (IsDissolveAnswer polygons file) tells (written old) (written new) result
+pub dissolve_settles : {S : Type 0} (written : S → List ℕ) (old new : S) (polygons text file : List ℕ) (tells : Bool)
+    (made : Result (Vec ℕ) Status) (result : Status) → text ≡ file → IfOk made (λ b. IsDissolveAnswer polygons text (done b.items))
+    → IfErr made (λ s. (s ≡ NoMemory) ⊎ IsDissolveAnswer polygons text (refused s)) → IfErr made IsMapStatus
+    → IfOk made (λ b. Replies tells (written old) (written new) b.items Done result) → IfErr made (λ s. (result ≡ s) × (new ≡ old))
+    → Settles (IsDissolveAnswer polygons file) tells (written old) (written new) result
 dissolve_settles written old new polygons text file tells (Ok b) result same is refusal status replies ended =
     let of_file = subst (λ (xs : List ℕ). IsDissolveAnswer polygons xs (done b.items)) same is in
     settled_with (IsDissolveAnswer polygons file) tells (written old) (written new) Done b.items result of_file tt replies
 dissolve_settles written old new polygons text file tells (Err s) result same is refusal status replies ended =
     let of_file = subst (λ (xs : List ℕ). (s ≡ NoMemory) ⊎ IsDissolveAnswer polygons xs (refused s)) same refusal in
-    let answer = settled_refused (IsDissolveAnswer polygons file) tells (written old) (written new) s (ap written ended.1) status (known of_file) in
+    let answer =
+        settled_refused (IsDissolveAnswer polygons file) tells (written old) (written new) s (ap written ended.1) status (known of_file) in
     subst (λ (r : Status). Settles (IsDissolveAnswer polygons file) tells (written old) (written new) r) (sym ended.0) answer
   where
     known : (s ≡ NoMemory) ⊎ IsDissolveAnswer polygons file (refused s) → s ≢ NoMemory → IsDissolveAnswer polygons file (refused s)
@@ -120,26 +140,35 @@ dissolved_is_border polygons text bytes is =
 
 -- ---- what was done
 
-pub dissolve_refused : (options : Options) (polygons text : List ℕ) (s : Status) → options ≡ plain → IsRefused options text s → (s ≡ NoMemory) ⊎ IsDissolveAnswer polygons text (refused s)
+pub dissolve_refused : (options : Options) (polygons text : List ℕ) (s : Status) → options ≡ plain → IsRefused options text s
+    → (s ≡ NoMemory) ⊎ IsDissolveAnswer polygons text (refused s)
 dissolve_refused options polygons text s is_plain (inl none) = inl none
-dissolve_refused options polygons text s is_plain (inr why) = inr (RefusedMap s (subst (λ (o : Options). IsRefusal o text s) is_plain why) refl)
+dissolve_refused options polygons text s is_plain (inr why) =
+    inr (RefusedMap s (subst (λ (o : Options). IsRefusal o text s) is_plain why) refl)
 
 -- the map, the numbers and the count that were at hand are those of the text and the list
-pub record AreAtHand (options : Options) (polygons text : List ℕ) (t : TopologyRead) (held : List ℕ) (m : Map) (count : ℕ) (numbers : List ℕ) : Type 0 where
+pub record AreAtHand (options : Options) (polygons text : List ℕ) (t : TopologyRead) (held : List ℕ) (m : Map) (count : ℕ)
+    (numbers : List ℕ) : Type 0 where
   pub is_plain : options ≡ plain
   pub loaded : IsLoaded options text t held
   pub map_is : m ≡ t.map
   pub count_is : count ≡ length m.polygons
   pub numbers_are : numbers ≡ polygons
 
-as_plain : (options : Options) (text : List ℕ) (t : TopologyRead) (held : List ℕ) → options ≡ plain → IsLoaded options text t held → IsLoaded plain text t held
+as_plain : (options : Options) (text : List ℕ) (t : TopologyRead) (held : List ℕ) → options ≡ plain → IsLoaded options text t held
+    → IsLoaded plain text t held
 as_plain options text t held is loaded = subst (λ (o : Options). IsLoaded o text t held) is loaded
 
-missing_as : (options : Options) (polygons text : List ℕ) (t : TopologyRead) (held : List ℕ) (m : Map) (count : ℕ) (numbers : List ℕ) (o : Option ℕ) → AreAtHand options polygons text t held m count numbers → o ≡ first_missing count numbers → first_missing (length t.map.polygons) polygons ≡ o
+missing_as : (options : Options) (polygons text : List ℕ) (t : TopologyRead) (held : List ℕ) (m : Map) (count : ℕ) (numbers : List ℕ)
+    (o : Option ℕ) → AreAtHand options polygons text t held m count numbers → o ≡ first_missing count numbers
+    → first_missing (length t.map.polygons) polygons ≡ o
 missing_as options polygons text t held m count numbers o are is =
-    sym (is ∙ ap (λ (n : ℕ). first_missing n numbers) (are.count_is ∙ ap (λ (n : Map). length n.polygons) are.map_is) ∙ ap (first_missing (length t.map.polygons)) are.numbers_are)
+    sym (is ∙ ap (λ (n : ℕ). first_missing n numbers) (are.count_is ∙ ap (λ (n : Map). length n.polygons) are.map_is)
+        ∙ ap (first_missing (length t.map.polygons)) are.numbers_are)
 
-pub dissolve_missed : (options : Options) (polygons text : List ℕ) (t : TopologyRead) (held : List ℕ) (m : Map) (count : ℕ) (numbers : List ℕ) (k : ℕ) → AreAtHand options polygons text t held m count numbers → Some k ≡ first_missing count numbers → IsDissolveAnswer polygons text (refused (NoPolygon k))
+pub dissolve_missed : (options : Options) (polygons text : List ℕ) (t : TopologyRead) (held : List ℕ) (m : Map) (count : ℕ)
+    (numbers : List ℕ) (k : ℕ) → AreAtHand options polygons text t held m count numbers → Some k ≡ first_missing count numbers
+    → IsDissolveAnswer polygons text (refused (NoPolygon k))
 dissolve_missed options polygons text t held m count numbers k are is =
     Missed k (record {
       topology = t;
@@ -148,7 +177,9 @@ dissolve_missed options polygons text t held m count numbers k are is =
       first = missing_as options polygons text t held m count numbers (Some k) are is;
     }) refl
 
-pub dissolve_written : (options : Options) (polygons text : List ℕ) (t : TopologyRead) (held : List ℕ) (m : Map) (count : ℕ) (numbers bytes : List ℕ) → AreAtHand options polygons text t held m count numbers → None ≡ first_missing count numbers → IsBorderText m numbers bytes → IsDissolveAnswer polygons text (done bytes)
+pub dissolve_written : (options : Options) (polygons text : List ℕ) (t : TopologyRead) (held : List ℕ) (m : Map) (count : ℕ)
+    (numbers bytes : List ℕ) → AreAtHand options polygons text t held m count numbers → None ≡ first_missing count numbers
+    → IsBorderText m numbers bytes → IsDissolveAnswer polygons text (done bytes)
 dissolve_written options polygons text t held m count numbers bytes are is by =
     let of_map = subst (λ (n : Map). IsBorderText n numbers bytes) are.map_is by in
     Dissolved bytes (record {

@@ -10,7 +10,11 @@ use Rattle.top_call.specs.declared.forms.Options.{Options}
 use Rattle.top_call.specs.Maps.{IsLoaded, scales_of}
 use Rattle.top_call.specs.Answers.{IsSimplified, IsCertified, text_with, version_of}
 
-pub certified_by : (options : Options) (bound : ℤ) (text bytes : List ℕ) (t : TopologyRead) (held beside : List ℕ) (after : Map) (records : List Record) (w : Scales) (version : ℕ) → IsLoaded options text t held → IsOutcome t.map (record { held = held; bound = bound; weights = w }) after records → w ≡ scales_of options.weights → version ≡ version_of options → beside ≡ held → bytes ≡ certificate_text (content version bound w beside records) → IsCertified options bound text bytes
+pub certified_by : (options : Options) (bound : ℤ) (text bytes : List ℕ) (t : TopologyRead) (held beside : List ℕ) (after : Map)
+    (records : List Record) (w : Scales) (version : ℕ) → IsLoaded options text t held
+    → IsOutcome t.map (record { held = held; bound = bound; weights = w }) after records → w ≡ scales_of options.weights
+    → version ≡ version_of options → beside ≡ held → bytes ≡ certificate_text (content version bound w beside records)
+    → IsCertified options bound text bytes
 certified_by options bound text bytes t held beside after records w version loaded outcome is_w is_version is_held is =
     record {
       topology = t;
@@ -27,8 +31,10 @@ certified_by options bound text bytes t held beside after records w version load
           ∙ ap (λ (arcs : List ℕ). certificate_text (content (version_of options) bound (scales_of options.weights) arcs records)) is_held;
     }
 
-pub simplified_by : (options : Options) (bound : ℤ) (text bytes : List ℕ) (t : TopologyRead) (held : List ℕ) (after m : Map) (records : List Record) (w : Scales) → IsLoaded options text t held
-    → IsOutcome t.map (record { held = held; bound = bound; weights = w }) after records → w ≡ scales_of options.weights → m ≡ after → bytes ≡ text_with text t m → IsSimplified options bound text bytes
+pub simplified_by : (options : Options) (bound : ℤ) (text bytes : List ℕ) (t : TopologyRead) (held : List ℕ) (after m : Map)
+    (records : List Record) (w : Scales) → IsLoaded options text t held
+    → IsOutcome t.map (record { held = held; bound = bound; weights = w }) after records → w ≡ scales_of options.weights → m ≡ after
+    → bytes ≡ text_with text t m → IsSimplified options bound text bytes
 simplified_by options bound text bytes t held after m records w loaded outcome is_w is_map is =
     record {
       topology = t;

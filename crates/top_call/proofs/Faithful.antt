@@ -1,5 +1,6 @@
 -- What a run writes of a text is faithful to it.
-use Rattle.std.proofs.Common.{◌≡◌, ℕ, zero, suc, ℤ, ◌+◌, ◌<◌, Bool, true, false, List, ◌∷◌, length, take, get_or, ap, refl, sym, subst, inl, inr, arith}
+use Rattle.std.proofs.Common.{◌≡◌, ℕ, zero, suc, ℤ, ◌+◌, ◌<◌, Bool, true, false, List, ◌∷◌, length, take, get_or, ap, refl, sym, subst, inl}
+use Rattle.std.proofs.Common.{inr, arith}
 use Rattle.arc_map.specs.Map.{Map}
 use Rattle.arc_map.specs.Arranged.{IsMapArranged}
 use Rattle.arc_map.specs.Records.{Record}
@@ -29,7 +30,8 @@ found_first t w k r rest is =
     let same : k ≡ k + 0 = omega arith in
     record { steps = 0; found = w; before = (refl, refl); best = subst (λ (j : ℕ). IsRecordOf t w j r) same is }
 
-record_found : (t : Terms) (w : Work) (k more : ℕ) (records : List Record) (after : Work) (n : ℕ) (d : Record) → AreReplaced t w k more records after → n < length records → IsFoundIn t w k records n (get_or records n d)
+record_found : (t : Terms) (w : Work) (k more : ℕ) (records : List Record) (after : Work) (n : ℕ) (d : Record)
+    → AreReplaced t w k more records after → n < length records → IsFoundIn t w k records n (get_or records n d)
 record_found t w k zero records after n d run within = absurd (omega (arith, within, ap length run.0))
 record_found t w k (suc more) records after n d (inl run) within =
     let later = record_found t w (suc k) more records after n d run.1 within in
@@ -53,12 +55,14 @@ record_found t w k (suc more) records after (suc n) d (inr run) within =
       best = subst (λ (j : ℕ). IsRecordOf t later.found j (get_or run.2 n d)) same later.best;
     })
 
-record_is_fewest : (t : Terms) (w : Work) (more : ℕ) (records : List Record) (after : Work) (n : ℕ) (d : Record) → AreReplaced t w 0 more records after → n < length records → IsFewest t w records n (get_or records n d)
+record_is_fewest : (t : Terms) (w : Work) (more : ℕ) (records : List Record) (after : Work) (n : ℕ) (d : Record)
+    → AreReplaced t w 0 more records after → n < length records → IsFewest t w records n (get_or records n d)
 record_is_fewest t w more records after n d run within =
     let one = record_found t w 0 more records after n d run within in
     let same : 0 + one.steps ≡ one.steps = omega arith in
     let best = subst (λ (j : ℕ). IsRecordOf t one.found j (get_or records n d)) same one.best in
-    record { chain = one.steps; found = one.found; before = one.before; best = best; certified = layers_certify_path t one.found one.steps (get_or records n d) best }
+    record { chain = one.steps; found = one.found; before = one.before; best = best; certified =
+        layers_certify_path t one.found one.steps (get_or records n d) best }
 
 -- ---- all of it
 
@@ -66,7 +70,8 @@ pub arranged_with : (hold : Bool) (m : Map) (held : List ℕ) → AreHeldBeside 
 arranged_with true m held beside = arranged_beside m held beside
 arranged_with false m held beside = subst (λ (arcs : List ℕ). IsMapArranged arcs m) (sym beside.1) beside.0
 
-pub simplified_is_faithful : (options : Options) (bound : ℤ) (text bytes : List ℕ) → IsSimplified options bound text bytes → IsFaithful options bound text bytes
+pub simplified_is_faithful : (options : Options) (bound : ℤ) (text bytes : List ℕ) → IsSimplified options bound text bytes
+    → IsFaithful options bound text bytes
 simplified_is_faithful options bound text bytes by =
     let m = by.topology.map in
     let t = terms_of options bound by.held in

@@ -1,5 +1,6 @@
 -- What was written for FILE is found right, and has the lines of FILE.
-use Rattle.std.proofs.Common.{◌≡◌, ◌∙◌, ℕ, ℤ, ◌≤◌, ◌^◌, Bool, false, List, [], ◌∷◌, ◌++◌, Option, Some, length, ap, refl, sym, subst, inl, inr, arith}
+use Rattle.std.proofs.Common.{◌≡◌, ◌∙◌, ℕ, ℤ, ◌≤◌, ◌^◌, Bool, false, List, [], ◌∷◌, ◌++◌, Option, Some, length, ap, refl, sym, subst, inl}
+use Rattle.std.proofs.Common.{inr, arith}
 use Rattle.std.specs.Prelude.{◌≢◌}
 use Rattle.outside_io.specs.Texts.{Texts, text_of}
 use Rattle.std.proofs.lemmas.Option.{same_Some}
@@ -13,7 +14,8 @@ use Rattle.top_call.specs.Words.{Form, Simplify, Layers, Check, Faces, form_of}
 use Rattle.top_call.specs.Requests.{IsWithinLimits}
 use Rattle.top_call.specs.Reading.{Named, named, Read, AreRead}
 use Rattle.top_call.specs.Verdicts.{verdict_line}
-use Rattle.top_call.specs.Answers.{Answer, done, plain, IsSimplified, IsCertified, IsFaced, IsMapAnswer, Written, Told, IsWorkAnswer, IsFormAnswer, NotHeld, TooLong, Worked, IsAnswerBy, IsAnswer}
+use Rattle.top_call.specs.Answers.{Answer, done, plain, IsSimplified, IsCertified, IsFaced, IsMapAnswer, Written, Told, IsWorkAnswer}
+use Rattle.top_call.specs.Answers.{IsFormAnswer, NotHeld, TooLong, Worked, IsAnswerBy, IsAnswer}
 use Rattle.top_call.specs.Endings.{Settles}
 use Rattle.top_call.specs.Headline.{Finishes, AreWrittenFor, ReachesYes, IsWrittenFor, KeepsLines}
 use Rattle.top_call.proofs.AnswerOfWords.{form_answer_is_one}
@@ -45,15 +47,18 @@ of_file f options texts file W bytes names works (TooLong role past is) =
     absurd cc
 of_file f options texts file W bytes names works (Worked read are short work) =
     let here = subst (λ (ns : List Named). AreRead texts ns read) names are in
-    record { text = read.file; is_held = here.0; short = short.file; is = written_by options read.file (W read.file) bytes (works read (done bytes) work) }
+    record { text = read.file; is_held = here.0; short = short.file; is =
+        written_by options read.file (W read.file) bytes (works read (done bytes) work) }
 
 simplified_of : (options : Options) (bound : ℤ) (texts : Texts) (file bytes : List ℕ)
     → IsFormAnswer (Simplify options bound file) texts (done bytes) → IsOfFile texts file (IsSimplified options bound) bytes
-simplified_of options bound texts file bytes is = of_file (Simplify options bound file) options texts file (IsSimplified options bound) bytes refl (λ read a work. work) is
+simplified_of options bound texts file bytes is =
+    of_file (Simplify options bound file) options texts file (IsSimplified options bound) bytes refl (λ read a work. work) is
 
 certified_of : (options : Options) (bound : ℤ) (texts : Texts) (file bytes : List ℕ)
     → IsFormAnswer (Layers options bound file) texts (done bytes) → IsOfFile texts file (IsCertified options bound) bytes
-certified_of options bound texts file bytes is = of_file (Layers options bound file) options texts file (IsCertified options bound) bytes refl (λ read a work. work) is
+certified_of options bound texts file bytes is =
+    of_file (Layers options bound file) options texts file (IsCertified options bound) bytes refl (λ read a work. work) is
 
 faced_of : (texts : Texts) (file bytes : List ℕ) → IsFormAnswer (Faces file) texts (done bytes)
     → IsOfFile texts file (λ text lines. IsFaced text lines) bytes
@@ -68,7 +73,9 @@ finished words texts tells before now s f bytes settled read write is_form is =
     elim (answered (IsAnswer words texts) tells before now s read write settled) [
       | inl none ↦ inr none
       | inr known ↦
-          let one = form_answer_is_one f texts known.0 (done bytes) (subst (λ (o : Option Form). IsAnswerBy o texts known.0) is_form known.1) is in
+          let one =
+              form_answer_is_one f texts known.0 (done bytes) (subst (λ (o : Option Form). IsAnswerBy o texts known.0) is_form known.1)
+              is in
           inl (known.2 ∙ ap (λ (a : Answer). a.status) one, λ told. known.3 told ∙ ap (λ (a : Answer). before ++ a.bytes) one)
     ]
 
@@ -95,7 +102,8 @@ pub reaches_yes : (words : List (List ℕ)) (texts : Texts) (tells : Bool) (befo
     → Settles (IsAnswer words texts) tells before now s → s ≢ ReadFault → s ≢ WriteFault → ReachesYes words texts tells before now s
 reaches_yes words texts tells before now s settled read write options bound file out cert is_form are =
     let limits = (form_spells words (Some (Check options bound file out cert)) (sym is_form)).1 in
-    finished words texts tells before now s (Check options bound file out cert) (verdict_line Yes) settled read write is_form (yes_answered options bound texts file out cert limits are)
+    finished words texts tells before now s (Check options bound file out cert) (verdict_line Yes) settled read write is_form
+        (yes_answered options bound texts file out cert limits are)
 
 -- ---- the lines of FILE
 
@@ -107,19 +115,23 @@ lines_answered options bound texts file out lines are is =
     let same = same_Some other.text thinned.text (sym other.is_held ∙ thinned.is_held) in
     let faced = subst (λ (xs : List ℕ). IsFaced xs lines) same other.is in
     let only = lines_written options bound thinned.text are.written lines thinned.is faced in
-    Worked (record { file = are.written; out = []; cert = [] }) (are.is_held, tt) (record { file = are.short; out = omega arith; cert = omega arith }) ((only (done lines)).1 refl)
+    Worked (record { file = are.written; out = []; cert = [] }) (are.is_held, tt)
+        (record { file = are.short; out = omega arith; cert = omega arith }) ((only (done lines)).1 refl)
 
 file_has_lines : (options : Options) (bound : ℤ) (texts : Texts) (file out : List ℕ) → IsWrittenFor options bound texts file out
     → options.hold ≡ false → (lines : List ℕ) × IsFormAnswer (Faces file) texts (done lines)
 file_has_lines options bound texts file out are none =
     let thinned = simplified_of options bound texts file are.written are.simplified in
     let has = plain_lines options bound thinned.text are.written none are.limits.0 thinned.is in
-    (has.0, Worked (record { file = thinned.text; out = []; cert = [] }) (thinned.is_held, tt) (record { file = thinned.short; out = omega arith; cert = omega arith }) (Written has.0 has.1 refl))
+    (has.0, Worked (record { file = thinned.text; out = []; cert = [] }) (thinned.is_held, tt)
+        (record { file = thinned.short; out = omega arith; cert = omega arith }) (Written has.0 has.1 refl))
 
 pub keeps_lines : (words : List (List ℕ)) (texts : Texts) (tells : Bool) (before now : List ℕ) (s : Status)
     → Settles (IsAnswer words texts) tells before now s → s ≢ ReadFault → s ≢ WriteFault → KeepsLines words texts tells before now s
 keeps_lines words texts tells before now s settled read write options bound file out is_form are =
     record {
       has_lines = file_has_lines options bound texts file out are;
-      same_lines = λ lines is. finished words texts tells before now s (Faces out) lines settled read write is_form (lines_answered options bound texts file out lines are is);
+      same_lines =
+          λ lines is. finished words texts tells before now s (Faces out) lines settled read write is_form
+          (lines_answered options bound texts file out lines are is);
     }

@@ -81,7 +81,8 @@ checked_yes_are_right options bound read (IsCompared t after j same) =
       refs = j.refs;
       chains = j.chains;
       thins = yes_thins_arcs d j.held t.map j.refs j.content after j.chains j.judged;
-      faces = yes_keeps_faces d j.held t.map j.refs j.content after j.chains (arranged_with options.hold t.map j.held j.loaded.beside) j.judged;
+      faces = yes_keeps_faces d j.held t.map j.refs j.content after j.chains
+          (arranged_with options.hold t.map j.held j.loaded.beside) j.judged;
       content = j.content;
       is_content = j.is_content;
       fewest = yes_keeps_fewest d j.held t.map j.refs j.content after j.judged;

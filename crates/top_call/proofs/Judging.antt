@@ -21,10 +21,12 @@ verdict_told : (v : Verdict) → IsJudgingStatus (verdict_status v)
 verdict_told verdicts.Yes = inl refl
 verdict_told (verdicts.No r) = inr (inl (r, refl))
 
-all_within : (options : Options) (bound : ℤ) (texts : Texts) (file out cert : List ℕ) → CanJudge options texts file out cert → AreWithin texts (named (Check options bound file out cert))
+all_within : (options : Options) (bound : ℤ) (texts : Texts) (file out cert : List ℕ) → CanJudge options texts file out cert
+    → AreWithin texts (named (Check options bound file out cert))
 all_within options bound texts file out cert can = (file_within options texts file can.ready, (can.out_within, (can.cert_within, tt)))
 
-judging_ends : (options : Options) (bound : ℤ) (texts : Texts) (file out cert : List ℕ) (a : Answer) → CanJudge options texts file out cert → IsFormAnswer (Check options bound file out cert) texts a → IsJudgingStatus a.status
+judging_ends : (options : Options) (bound : ℤ) (texts : Texts) (file out cert : List ℕ) (a : Answer) → CanJudge options texts file out cert
+    → IsFormAnswer (Check options bound file out cert) texts a → IsJudgingStatus a.status
 judging_ends options bound texts file out cert a can (NotHeld none e) =
     absurd (none_unheld texts (named (Check options bound file out cert)) (all_within options bound texts file out cert can) none)
 judging_ends options bound texts file out cert a can (TooLong role past e) =
@@ -37,11 +39,13 @@ judging_ends options bound texts file out cert a can (Worked read are short (Ref
 judging_ends options bound texts file out cert a can (Worked read are short (Told verdict checked e)) =
     subst IsJudgingStatus (sym (ap (λ (b : Answer). b.status) e)) (verdict_told verdict)
 
-pub judges : (words : List (List ℕ)) (texts : Texts) (tells : Bool) (before now : List ℕ) (s : Status) → Settles (IsAnswer words texts) tells before now s → s ≢ ReadFault → s ≢ WriteFault → Judges words texts s
+pub judges : (words : List (List ℕ)) (texts : Texts) (tells : Bool) (before now : List ℕ) (s : Status)
+    → Settles (IsAnswer words texts) tells before now s → s ≢ ReadFault → s ≢ WriteFault → Judges words texts s
 judges words texts tells before now s settled read write options bound file out cert is_form can =
     elim (answered (IsAnswer words texts) tells before now s read write settled) [
       | inl none ↦ inr (inr none)
       | inr known ↦
           subst IsJudgingStatus (sym known.2)
-          (judging_ends options bound texts file out cert known.0 can (subst (λ (o : Option Form). IsAnswerBy o texts known.0) is_form known.1))
+          (judging_ends options bound texts file out cert known.0 can
+              (subst (λ (o : Option Form). IsAnswerBy o texts known.0) is_form known.1))
     ]

@@ -15,6 +15,7 @@ pub mod Demoed
 pub mod PointLines
 pub mod Settled
 pub mod Borders
+pub mod Ranked
 pub mod OneTree
 pub mod OneLoading
 pub mod ReadMaps

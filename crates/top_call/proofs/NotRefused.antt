@@ -20,7 +20,8 @@ use Rattle.top_call.specs.declared.forms.Options.{Options}
 use Rattle.top_call.specs.declared.status.Status.{Status}
 use Rattle.top_call.specs.declared.status.Status.TheVariants.{NoMemory}
 use Rattle.top_call.specs.Requests.{IsMakeable}
-use Rattle.top_call.specs.Maps.{HasTopology, NoTree, NoTopology, IsUnarranged, Clash, OnArc, IsFirstOffIn, AreHeldBeside, IsLoaded, IsRefused, IsRefusal, NoMap, OffGrid, Unarranged, scales_of}
+use Rattle.top_call.specs.Maps.{HasTopology, NoTree, NoTopology, IsUnarranged, Clash, OnArc, IsFirstOffIn, AreHeldBeside, IsLoaded}
+use Rattle.top_call.specs.Maps.{IsRefused, IsRefusal, NoMap, OffGrid, Unarranged, scales_of}
 use Rattle.top_call.specs.Answers.{plain}
 use Rattle.top_call.proofs.OneTree.{text_has_one_tree, text_has_one_topology}
 
@@ -42,11 +43,14 @@ none_first_off w places at stay first =
     first.off (subst (StaysOnGrid w) (get_or_from_slice_get places at first.place first.place first.there) stays)
 
 pub not_off : (w : Scales) (arcs : List (List Place)) (arc at : ℕ) → All (All (StaysOnGrid w)) arcs → IsFirstOffIn w arcs arc at → ⊥
-not_off w arcs arc at stay off = none_first_off w (get_or arcs arc []) at (All-get_or (All (StaysOnGrid w)) arcs arc [] off.within stay) off.first
+not_off w arcs arc at stay off =
+    none_first_off w (get_or arcs arc []) at (All-get_or (All (StaysOnGrid w)) arcs arc [] off.within stay) off.first
 
 -- a text is not refused that has a topology, whose positions the weights leave on the grid, and whose map is arranged where no arcs are to
 -- be held
-never_refused : (options : Options) (text : List ℕ) (t : TopologyRead) (s : Status) → HasTopology text t → ((w : Scales) → options.weights ≡ Some w → All (All (StaysOnGrid w)) t.map.arcs) → (options.hold ≡ false → IsArranged t.map) → IsRefusal options text s → ⊥
+never_refused : (options : Options) (text : List ℕ) (t : TopologyRead) (s : Status) → HasTopology text t
+    → ((w : Scales) → options.weights ≡ Some w → All (All (StaysOnGrid w)) t.map.arcs) → (options.hold ≡ false → IsArranged t.map)
+    → IsRefusal options text s → ⊥
 never_refused options text t s has stay arranged (NoMap (NoTree e why is)) =
     not_refused text has.has_tree.nodes e (has.has_tree.utf8, (has.has_tree.document, has.has_tree.json)) why
 never_refused options text t s has stay arranged (NoMap (NoTopology tree fault other none is)) =
@@ -65,7 +69,8 @@ arranged_alone : (hold : Bool) (m : Map) (held : List ℕ) → AreHeldBeside hol
 arranged_alone false m held beside none = beside.0
 arranged_alone true m held beside none = absurd cc
 
-pub loaded_not_refused : (options : Options) (text : List ℕ) (t : TopologyRead) (held : List ℕ) (s : Status) → IsLoaded options text t held → IsRefusal options text s → ⊥
+pub loaded_not_refused : (options : Options) (text : List ℕ) (t : TopologyRead) (held : List ℕ) (s : Status) → IsLoaded options text t held
+    → IsRefusal options text s → ⊥
 loaded_not_refused options text t held s loaded why =
     never_refused options text t s loaded.topology
     (λ w some. subst (λ (ws : Option Scales). All (All (StaysOnGrid (scales_of ws))) t.map.arcs) some loaded.weights)
@@ -79,11 +84,14 @@ made_not_refused rows cols seed s is why =
     let t : TopologyRead = record { map = made_map rows cols seed; arcs_at = reads.arcs_at } in
     let has : HasTopology (made rows cols seed) t = record {
       tree = document_tree reads.document;
-      has_tree = record { utf8 = reads.utf8; nodes = document_nodes reads.document; document = reads.document; json = reads.json; is = refl };
+      has_tree =
+          record { utf8 = reads.utf8; nodes = document_nodes reads.document; document = reads.document; json = reads.json; is = refl };
       reads = reads.topology;
     } in
-    never_refused plain (made rows cols seed) t s has (λ w some. absurd (none-some w some)) (λ none. made_maps_are_arranged rows cols seed) why
+    never_refused plain (made rows cols seed) t s has (λ w some. absurd (none-some w some))
+        (λ none. made_maps_are_arranged rows cols seed) why
 
-pub made_wants_memory : (rows cols seed : ℕ) (s : Status) → IsMakeable rows cols seed → IsRefused plain (made rows cols seed) s → s ≡ NoMemory
+pub made_wants_memory : (rows cols seed : ℕ) (s : Status) → IsMakeable rows cols seed → IsRefused plain (made rows cols seed) s
+    → s ≡ NoMemory
 made_wants_memory rows cols seed s is (inl none) = none
 made_wants_memory rows cols seed s is (inr why) = absurd (made_not_refused rows cols seed s is why)

@@ -1,5 +1,7 @@
 -- A word spells a number exactly where it is that number's decimal.
-use Rattle.std.proofs.Common.{◌≡◌, ℕ, ◌+◌, ◌*◌, ◌-◌, ◌^◌, ◌<◌, ◌≤◌, ◌==◌, ◌&&◌, ◌||◌, ℤ, pos, negsuc, nat_lt, List, [], ◌∷◌, ◌++◌, Option, None, Some, option_map, Bool, true, false, cond, length, get_or, decimal, refl, sym, ap, subst, ◌∙◌, arith, inl, inr, le-leb, leb-true}
+use Rattle.std.proofs.Common.{◌≡◌, ℕ, ◌+◌, ◌*◌, ◌-◌, ◌^◌, ◌<◌, ◌≤◌, ◌==◌, ◌&&◌, ◌||◌, ℤ, pos, negsuc, nat_lt, List, [], ◌∷◌, ◌++◌, Option}
+use Rattle.std.proofs.Common.{None, Some, option_map, Bool, true, false, cond, length, get_or, decimal, refl, sym, ap, subst, ◌∙◌, arith}
+use Rattle.std.proofs.Common.{inl, inr, le-leb, leb-true}
 use Rattle.std.proofs.lemmas.Bool.{cases_lt, and_parts}
 use Rattle.std.proofs.lemmas.Bool.Decides.{nat_tests}
 use Rattle.std.proofs.lemmas.Int.{ints}
@@ -104,7 +106,8 @@ number_found least most n small low high =
       | inl one ↦ ap length (decimal_digit n one)
       | inr more ↦ absurd (omega (arith, zero_first, first_decimal n (omega arith) fits))
     ] in
-    rw (no_leading_zero (length (decimal n)) (get_or (decimal n) 0 0) numeral.0.0 alone, read_all 0 (decimal n) numeral.0.1, numeral.1) (between_found least most n low high)
+    rw (no_leading_zero (length (decimal n)) (get_or (decimal n) 0 0) numeral.0.0 alone, read_all 0 (decimal n) numeral.0.1, numeral.1)
+        (between_found least most n low high)
 
 -- the number that a word spells is within its limits
 pub number_in_range : (least most : ℕ) (word : List ℕ) (n : ℕ) → number_between least most word ≡ Some n → (least ≤ n) × (n ≤ most)

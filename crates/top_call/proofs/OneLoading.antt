@@ -1,5 +1,6 @@
 -- A text loads as one map with one list of held arcs.
-use Rattle.std.proofs.Common.{◌≡◌, ◌∙◌, ℕ, zero, suc, ◌+◌, ◌<◌, ◌≤◌, Bool, true, false, List, [], ◌∷◌, length, get_or, sym, subst, refl, arith}
+use Rattle.std.proofs.Common.{◌≡◌, ◌∙◌, ℕ, zero, suc, ◌+◌, ◌<◌, ◌≤◌, Bool, true, false, List, [], ◌∷◌, length, get_or, sym, subst, refl}
+use Rattle.std.proofs.Common.{arith}
 use Rattle.std.specs.Prelude.{Contains}
 use Rattle.std.specs.List.Sorted.{IsStrictlyIncreasing}
 use Rattle.std.proofs.lemmas.List.{get_or_default}
@@ -33,7 +34,8 @@ later_is_greater x xs n rising has =
     omega (arith, order, has.2)
 
 -- what stands behind the first of one list stands behind the first of the other
-behind_first : (x : ℕ) (xs ys : List ℕ) → IsStrictlyIncreasing (x ∷ xs) → ((n : ℕ) → Contains (x ∷ xs) n → Contains (x ∷ ys) n) → (n : ℕ) → Contains xs n → Contains ys n
+behind_first : (x : ℕ) (xs ys : List ℕ) → IsStrictlyIncreasing (x ∷ xs) → ((n : ℕ) → Contains (x ∷ xs) n → Contains (x ∷ ys) n) → (n : ℕ)
+    → Contains xs n → Contains ys n
 behind_first x xs ys rising says n has =
     let inside = has.1 in
     let there = says n (suc has.0, omega arith, has.2) in
@@ -43,7 +45,8 @@ behind_first x xs ys rising says n has =
     at_place zero within e = absurd (omega (arith, later_is_greater x xs n rising has, e))
     at_place (suc j) within e = (j, omega arith, e)
 
-pub rising_is_one : (xs ys : List ℕ) → IsStrictlyIncreasing xs → IsStrictlyIncreasing ys → ((n : ℕ) → Contains xs n → Contains ys n) → ((n : ℕ) → Contains ys n → Contains xs n) → xs ≡ ys
+pub rising_is_one : (xs ys : List ℕ) → IsStrictlyIncreasing xs → IsStrictlyIncreasing ys → ((n : ℕ) → Contains xs n → Contains ys n)
+    → ((n : ℕ) → Contains ys n → Contains xs n) → xs ≡ ys
 rising_is_one [] [] first second there back = refl
 rising_is_one [] (y ∷ ys) first second there back = let has = back y (0, omega arith, refl) in absurd (omega (arith, has.1))
 rising_is_one (x ∷ xs) [] first second there back = let has = there x (0, omega arith, refl) in absurd (omega (arith, has.1))
@@ -54,7 +57,9 @@ rising_is_one (x ∷ xs) (y ∷ ys) first second there back =
     let there_too = subst (λ (z : ℕ). (n : ℕ) → Contains (x ∷ xs) n → Contains (z ∷ ys) n) (sym same) there in
     let back_too = subst (λ (z : ℕ). (n : ℕ) → Contains (z ∷ ys) n → Contains (x ∷ xs) n) (sym same) back in
     let second_too = subst (λ (z : ℕ). IsStrictlyIncreasing (z ∷ ys)) (sym same) second in
-    let rest = rising_is_one xs ys (rising_tail x xs first) (rising_tail y ys second) (behind_first x xs ys first there_too) (behind_first x ys xs second_too back_too) in
+    let rest =
+        rising_is_one xs ys (rising_tail x xs first) (rising_tail y ys second) (behind_first x xs ys first there_too)
+        (behind_first x ys xs second_too back_too) in
     cc
 
 -- ---- what is loaded
@@ -62,14 +67,16 @@ rising_is_one (x ∷ xs) (y ∷ ys) first second there back =
 held_is_one : (hold : Bool) (m : Map) (held other : List ℕ) → AreHeldBeside hold m held → AreHeldBeside hold m other → held ≡ other
 held_is_one false m held other first second = first.1 ∙ sym second.1
 held_is_one true m held other first second =
-    rising_is_one held other first.rising second.rising (λ n has. (second.all n).1 ((first.all n).0 has)) (λ n has. (first.all n).1 ((second.all n).0 has))
+    rising_is_one held other first.rising second.rising (λ n has. (second.all n).1 ((first.all n).0 has))
+        (λ n has. (first.all n).1 ((second.all n).0 has))
 
 -- two loadings of a text
 pub record SameLoading (t u : TopologyRead) (held other : List ℕ) : Type 0 where
   pub topology : t ≡ u
   pub held_arcs : held ≡ other
 
-pub loaded_is_one : (options : Options) (text : List ℕ) (t u : TopologyRead) (held other : List ℕ) → IsLoaded options text t held → IsLoaded options text u other → SameLoading t u held other
+pub loaded_is_one : (options : Options) (text : List ℕ) (t u : TopologyRead) (held other : List ℕ) → IsLoaded options text t held
+    → IsLoaded options text u other → SameLoading t u held other
 loaded_is_one options text t u held other first second =
     let same = text_has_one_topology text t u first.topology second.topology in
     let beside = subst (λ (v : TopologyRead). AreHeldBeside options.hold v.map other) (sym same) second.beside in

@@ -1,5 +1,6 @@
 -- A text is refused with one status.
-use Rattle.std.proofs.Common.{◌≡◌, ◌∙◌, ℕ, ◌<◌, Bool, List, [], Option, Some, All, Result, Err, get_or, take, sym, ap, subst, inl, inr, arith}
+use Rattle.std.proofs.Common.{◌≡◌, ◌∙◌, ℕ, ◌<◌, Bool, List, [], Option, Some, All, Result, Err, get_or, take, sym, ap, subst, inl, inr}
+use Rattle.std.proofs.Common.{arith}
 use Rattle.std.proofs.lemmas.Bool.{cases_order}
 use Rattle.std.proofs.lemmas.List.{get_or-take, length-take-le}
 use Rattle.std.proofs.lemmas.List.Elements.{All-get_or}
@@ -17,7 +18,8 @@ use Rattle.top_call.specs.declared.forms.Options.{Options}
 use Rattle.top_call.specs.declared.status.Meeting.TheVariants.{Edges, PointOnArc}
 use Rattle.top_call.specs.declared.status.Status.{Status}
 use Rattle.top_call.specs.declared.status.Status.TheVariants.{NotArranged, OffWeights}
-use Rattle.top_call.specs.Maps.{HasTopology, IsTextRefusal, NoTree, NoTopology, IsFirstOffIn, IsUnarranged, Clash, OnArc, StayOnGrid, IsRefusal, NoMap, OffGrid, Unarranged, scan_status, fault_status, scales_of}
+use Rattle.top_call.specs.Maps.{HasTopology, IsTextRefusal, NoTree, NoTopology, IsFirstOffIn, IsUnarranged, Clash, OnArc, StayOnGrid}
+use Rattle.top_call.specs.Maps.{IsRefusal, NoMap, OffGrid, Unarranged, scan_status, fault_status, scales_of}
 use Rattle.top_call.proofs.NotRefused.{not_off, none_first_off}
 use Rattle.top_call.proofs.OneTree.{text_has_one_tree, text_has_one_topology}
 
@@ -53,7 +55,8 @@ not_off_before w places k l before first second =
     let last = slice_get_within places l second.place second.there in
     let taken = length-take-le l places (omega (arith, last)) in
     let stays = All-get_or (StaysOnGrid w) (take l places) k first.place (omega (arith, taken, before)) second.before in
-    let is : get_or (take l places) k first.place ≡ first.place = get_or-take l places k first.place before ∙ get_or_from_slice_get places k first.place first.place first.there in
+    let is : get_or (take l places) k first.place ≡ first.place = get_or-take l places k first.place before
+        ∙ get_or_from_slice_get places k first.place first.place first.there in
     first.off (subst (StaysOnGrid w) is stays)
 
 first_off_is_one : (w : Scales) (places : List Place) (k l : ℕ) → IsFirstOff w places k → IsFirstOff w places l → k ≡ l
@@ -133,8 +136,10 @@ point_is_one m k l e f first second = elim (cases_order k l) [
 ]
 
 unarranged_is_one : (hold : Bool) (m : Map) (s u : Status) → IsUnarranged hold m s → IsUnarranged hold m u → s ≡ u
-unarranged_is_one hold m s u (Clash e f none least is) (Clash g h also other too) = is ∙ ap NotArranged (clash_is_one m e f g h least other) ∙ sym too
-unarranged_is_one hold m s u (OnArc k e none least is) (OnArc l f also other too) = is ∙ ap NotArranged (point_is_one m k l e f least other) ∙ sym too
+unarranged_is_one hold m s u (Clash e f none least is) (Clash g h also other too) =
+    is ∙ ap NotArranged (clash_is_one m e f g h least other) ∙ sym too
+unarranged_is_one hold m s u (OnArc k e none least is) (OnArc l f also other too) =
+    is ∙ ap NotArranged (point_is_one m k l e f least other) ∙ sym too
 unarranged_is_one hold m s u (Clash e f none least is) (OnArc k g also point too) =
     absurd (point.no_clash e f least.first_edge least.second_edge least.ordered least.clash)
 unarranged_is_one hold m s u (OnArc k g none point is) (Clash e f also least too) =

@@ -11,7 +11,9 @@ use Rattle.json_scan.specs.Machine.{Whole as WholeOf}
 use Rattle.json_scan.specs.Stops.{outcome_of}
 use Rattle.json_scan.specs.View.{ScanView, symbols}
 use Rattle.json_scan.specs.Whole.{read_whole}
-use Rattle.json_scan.specs.Tree.{Extent, Tree, NullAt, FalseAt, TrueAt, NumberAt, TextAt, ListAt, ObjectAt, Trees, NoTrees, NextTree, Entries, NoEntries, NextEntry, kind_of, after_at, IsNode, SpellsNumber, SpellsText, NodeIs, NodesAre, EntriesAre, document_tree}
+use Rattle.json_scan.specs.Tree.{Extent, Tree, NullAt, FalseAt, TrueAt, NumberAt, TextAt, ListAt, ObjectAt, Trees, NoTrees, NextTree}
+use Rattle.json_scan.specs.Tree.{Entries, NoEntries, NextEntry, kind_of, after_at, IsNode, SpellsNumber, SpellsText, NodeIs, NodesAre}
+use Rattle.json_scan.specs.Tree.{EntriesAre, document_tree}
 use Rattle.json_scan.proofs.Documents.{document-read}
 use Rattle.json_scan.proofs.Items.{no_item}
 use Rattle.json_scan.proofs.Members.{no_entry}
@@ -79,7 +81,8 @@ no_quote (Plain b) rest more fits e =
 no_quote (Escaped b) rest more fits e = let byte : ◌≡◌ {A = ℕ} 92 34 = cc in absurd (omega (arith, byte))
 no_quote (Unicode w x y z) rest more fits e = let byte : ◌≡◌ {A = ℕ} 92 34 = cc in absurd (omega (arith, byte))
 
-pieces_are_one : (ps qs : List Piece) → AllByRecursion IsPiece ps → AllByRecursion IsPiece qs → pieces_then ps (34 ∷ []) ≡ pieces_then qs (34 ∷ []) → ps ≡ qs
+pieces_are_one : (ps qs : List Piece) → AllByRecursion IsPiece ps → AllByRecursion IsPiece qs
+    → pieces_then ps (34 ∷ []) ≡ pieces_then qs (34 ∷ []) → ps ≡ qs
 pieces_are_one [] [] fits others e = refl
 pieces_are_one [] (q ∷ qs) fits others e = absurd (no_quote q (pieces_then qs (34 ∷ [])) [] others.0 (sym e))
 pieces_are_one (p ∷ ps) [] fits others e = absurd (no_quote p (pieces_then ps (34 ∷ [])) [] fits.0 e)
@@ -99,13 +102,15 @@ extent_is_one s k a b e f first second =
 word_is_one : (s : ScanView) (e f : Extent) (word other : List ℕ) → e ≡ f → SpellsText s e word → SpellsText s f other → word ≡ other
 word_is_one s e f word other same first second =
     let here = subst (λ (x : Extent). SpellsText s x other) (sym same) second in
-    let pieces = pieces_are_one first.pieces here.pieces first.are_pieces here.are_pieces (ap (drop 1) (sym first.spelled ∙ here.spelled)) in
+    let pieces =
+        pieces_are_one first.pieces here.pieces first.are_pieces here.are_pieces (ap (drop 1) (sym first.spelled ∙ here.spelled)) in
     sym first.value ∙ ap symbols pieces ∙ here.value
 
 whole_is_one : (s : ScanView) (e f : Extent) (whole other : Whole) → e ≡ f → SpellsNumber s e whole → SpellsNumber s f other → whole ≡ other
 whole_is_one s e f whole other same first second =
     let here = subst (λ (x : Extent). SpellsNumber s x other) (sym same) second in
-    sym first.value ∙ sym (whole-law first.form first.is_number) ∙ ap read_whole (sym first.spelled ∙ here.spelled) ∙ whole-law here.form here.is_number ∙ here.value
+    sym first.value ∙ sym (whole-law first.form first.is_number) ∙ ap read_whole (sym first.spelled ∙ here.spelled)
+        ∙ whole-law here.form here.is_number ∙ here.value
 
 mutual
   pub tree_is_one : (s : ScanView) (k : ℕ) (t u : Tree) → NodeIs s k t → NodeIs s k u → t ≡ u
@@ -142,7 +147,8 @@ mutual
 
   entries_are_one : (s : ScanView) (k end : ℕ) (es fs : Entries) → EntriesAre s k end es → EntriesAre s k end fs → es ≡ fs
   entries_are_one s k end NoEntries fs are others = sym (no_entry s end fs (subst (λ (n : ℕ). EntriesAre s n end fs) are others))
-  entries_are_one s k end (NextEntry e name t es) NoEntries are others = no_entry s end (NextEntry e name t es) (subst (λ (n : ℕ). EntriesAre s n end (NextEntry e name t es)) others are)
+  entries_are_one s k end (NextEntry e name t es) NoEntries are others =
+      no_entry s end (NextEntry e name t es) (subst (λ (n : ℕ). EntriesAre s n end (NextEntry e name t es)) others are)
   entries_are_one s k end (NextEntry e name t es) (NextEntry f other u fs) are others =
       let place = extent_is_one s k kind.Text kind.Text e f are.0 others.0 in
       let word = word_is_one s e f name other place are.1 others.1 in

@@ -59,7 +59,8 @@ compared expected out (No (reasons.Layers n i j)) found = absurd found
 comparison_is_one : (expected out : List ℕ) (v w : Verdict) → Compared expected out v → IsComparison expected out v
     → IsComparison expected out w → Compared expected out w → v ≡ w
 comparison_is_one expected out v w (Equal is same) first second also = is ∙ sym (compared_equal expected out w same second)
-comparison_is_one expected out v w (Differing at is differ) first second (Equal too same) = compared_equal expected out v same first ∙ sym too
+comparison_is_one expected out v w (Differing at is differ) first second (Equal too same) =
+    compared_equal expected out v same first ∙ sym too
 comparison_is_one expected out v w (Differing at is differ) first second (Differing place too other) =
     is ∙ ap (λ (n : ℕ). No (reasons.Text n)) (difference_is_one expected out at place differ other) ∙ sym too
 
@@ -84,7 +85,8 @@ verdict_is_one options bound read v w (IsRefuted t reason after judged is) (IsRe
 verdict_is_one options bound read v w (IsRefuted t reason after judged is) (IsCompared u chains again found) =
     absurd (no_is_not_yes reason (judged_for_once options bound read.file read.cert t u (No reason) Yes after chains judged again).verdict)
 verdict_is_one options bound read v w (IsCompared t after judged found) (IsRefuted u other chains again too) =
-    absurd (no_is_not_yes other (sym (judged_for_once options bound read.file read.cert t u Yes (No other) after chains judged again).verdict))
+    absurd (no_is_not_yes other (sym (judged_for_once options bound read.file read.cert t u Yes
+        (No other) after chains judged again).verdict))
 verdict_is_one options bound read v w (IsCompared t after judged found) (IsCompared u chains again other) =
     let same = judged_for_once options bound read.file read.cert u t Yes Yes chains after again judged in
     let expected = text_with read.file t (map_now t.map after) in

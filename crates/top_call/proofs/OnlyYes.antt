@@ -17,7 +17,8 @@ use Rattle.cert_checker.proofs.Uniqueness.{judged_once}
 use Rattle.top_call.specs.declared.forms.Options.{Options}
 use Rattle.top_call.specs.Maps.{scales_of}
 use Rattle.top_call.specs.Reading.{Read}
-use Rattle.top_call.specs.Answers.{IsJudgedFor, IsChecked, NotCertificate, IsRefuted, IsCompared, IsComparison, IsSimplified, IsCertified, text_with, version_of}
+use Rattle.top_call.specs.Answers.{IsJudgedFor, IsChecked, NotCertificate, IsRefuted, IsCompared, IsComparison, IsSimplified, IsCertified}
+use Rattle.top_call.specs.Answers.{text_with, version_of}
 use Rattle.top_call.specs.Laws.{SimplifiedChecksYes}
 use Rattle.top_call.specs.Requests.{IsBound, AreWeights}
 use Rattle.top_call.proofs.CheckedYes.{certified_yes, written_as_expected, simplified_is_checked}
@@ -32,15 +33,21 @@ pub record SameJudgement (t u : TopologyRead) (v w : Verdict) (here there : List
   pub verdict : v ≡ w
   pub chains : here ≡ there
 
-pub judged_for_once : (options : Options) (bound : ℤ) (text cert : List ℕ) (t u : TopologyRead) (v w : Verdict) (here there : List Chain) → IsJudgedFor options bound text cert t v here → IsJudgedFor options bound text cert u w there → SameJudgement t u v w here there
+pub judged_for_once : (options : Options) (bound : ℤ) (text cert : List ℕ) (t u : TopologyRead) (v w : Verdict) (here there : List Chain)
+    → IsJudgedFor options bound text cert t v here → IsJudgedFor options bound text cert u w there → SameJudgement t u v w here there
 judged_for_once options bound text cert t u v w here there first second =
     let d = demand (version_of options) bound (scales_of options.weights) in
     let same = loaded_is_one options text t u first.held second.held first.loaded second.loaded in
-    let says = have_one_content first.content second.content first.is_content.certificate second.is_content.certificate (first.is_content.text ∙ sym second.is_content.text) in
+    let says =
+        have_one_content first.content second.content first.is_content.certificate second.is_content.certificate
+        (first.is_content.text ∙ sym second.is_content.text) in
     let chains = subst (λ (x : TopologyRead). AreChainsIn x.map second.refs) (sym same.topology) second.chains in
     let refs = chains_lie_once t.map first.refs second.refs first.chains chains in
-    let by_map = subst (λ (x : TopologyRead). IsJudged d second.held (work_of x.map second.refs) second.content w there) (sym same.topology) second.judged in
-    let by_held = subst (λ (arcs : List ℕ). IsJudged d arcs (work_of t.map second.refs) second.content w there) (sym same.held_arcs) by_map in
+    let by_map =
+        subst (λ (x : TopologyRead). IsJudged d second.held (work_of x.map second.refs) second.content w there)
+        (sym same.topology) second.judged in
+    let by_held =
+        subst (λ (arcs : List ℕ). IsJudged d arcs (work_of t.map second.refs) second.content w there) (sym same.held_arcs) by_map in
     let by_refs = subst (λ (rs : List ChainRef). IsJudged d first.held (work_of t.map rs) second.content w there) (sym refs) by_held in
     let by_content = subst (λ (c : Content). IsJudged d first.held (work_of t.map first.refs) c w there) (sym says) by_refs in
     let once = judged_once d first.held (work_of t.map first.refs) first.content v w here there first.judged by_content in
@@ -64,10 +71,13 @@ compared_equal expected out (No (reasons.Layers n i j)) same found = absurd foun
 
 -- ---- no other verdict
 
-only_yes : (options : Options) (bound : ℤ) (read : Read) (v : Verdict) → AreWeights options.weights → IsBound bound → IsSimplified options bound read.file read.out → IsCertified options bound read.file read.cert → IsChecked options bound read v → v ≡ Yes
+only_yes : (options : Options) (bound : ℤ) (read : Read) (v : Verdict) → AreWeights options.weights → IsBound bound
+    → IsSimplified options bound read.file read.out → IsCertified options bound read.file read.cert → IsChecked options bound read v
+    → v ≡ Yes
 only_yes options bound read v weights is_bound simplified certified (NotCertificate t held loaded none is) =
     let by = certified in
-    absurd (none (content (version_of options) bound (scales_of options.weights) by.held by.records) (run_is_certified options bound read.file by.topology by.held by.after by.records weights is_bound by.run) (sym by.written))
+    absurd (none (content (version_of options) bound (scales_of options.weights) by.held by.records)
+        (run_is_certified options bound read.file by.topology by.held by.after by.records weights is_bound by.run) (sym by.written))
 only_yes options bound read v weights is_bound simplified certified (IsRefuted t reason after judged is) =
     let yes = certified_yes options bound read.file read.cert certified weights is_bound in
     let same = judged_for_once options bound read.file read.cert t certified.topology (No reason) Yes after yes.chains judged yes.judged in

@@ -21,15 +21,18 @@ arc_is_filled [] is = absurd is
 arc_is_filled (p ∷ ps) is = omega arith
 
 -- numbers that rise to the last one below n are below n
-numbers_below : (n : ℕ) (numbers : List ℕ) → 0 < n → IsStrictlyIncreasing numbers → slice_index numbers (length numbers - 1) ≡ n - 1 → (k d : ℕ) → k < length numbers → get_or numbers k d < n
+numbers_below : (n : ℕ) (numbers : List ℕ) → 0 < n → IsStrictlyIncreasing numbers → slice_index numbers (length numbers - 1) ≡ n - 1
+    → (k d : ℕ) → k < length numbers → get_or numbers k d < n
 numbers_below n numbers some rising last k d below =
-    let up : get_or numbers k 0 ≤ get_or numbers (length numbers - 1) 0 = rising_order numbers rising k (length numbers - 1) (omega arith) (omega arith) in
+    let up : get_or numbers k 0 ≤ get_or numbers (length numbers - 1) 0 =
+        rising_order numbers rising k (length numbers - 1) (omega arith) (omega arith) in
     let top : get_or numbers (length numbers - 1) 0 ≡ n - 1 = last in
     let same : get_or numbers k d ≡ get_or numbers k 0 = get_or_default numbers k d 0 below in
     omega arith
 
 -- the place that is left by the k-th number, n
-left_place : (before after : List Place) (numbers : List ℕ) (k n : ℕ) → after ≡ map (place_at before) numbers → k < length numbers → slice_index numbers k ≡ n → n < length before → slice_get after k ≡ slice_get before n
+left_place : (before after : List Place) (numbers : List ℕ) (k n : ℕ) → after ≡ map (place_at before) numbers → k < length numbers
+    → slice_index numbers k ≡ n → n < length before → slice_get after k ≡ slice_get before n
 left_place before after numbers k n places below is under =
     let size : length (map (place_at before) numbers) ≡ length numbers = length-map numbers (place_at before) in
     let inside : k < length (map (place_at before) numbers) = omega arith in
@@ -40,7 +43,8 @@ left_place before after numbers k n places below is under =
     ∙ ap (λ (i : ℕ). Some (place_at before i)) number
     ∙ sym (slice_get-get_or before n nowhere under)
 
-thinned_stands : (Near : Place → Place → Place → Type 0) (before after : List Place) (numbers : List ℕ) → IsArc before → IsArc after → IsThinned Near before after numbers → StandsFor before after
+thinned_stands : (Near : Place → Place → Place → Type 0) (before after : List Place) (numbers : List ℕ) → IsArc before → IsArc after
+    → IsThinned Near before after numbers → StandsFor before after
 thinned_stands Near before after numbers was is thinned =
     let filled : 0 < length before = arc_is_filled before was in
     let some : 0 < length numbers = thinned.some.1 filled in
@@ -52,14 +56,17 @@ thinned_stands Near before after numbers was is thinned =
       first = left_place before after numbers 0 0 thinned.places some thinned.first filled;
       last =
           ap (λ (n : ℕ). slice_get after (n - 1)) size
-          ∙ left_place before after numbers (length numbers - 1) (length before - 1) thinned.places (omega arith) thinned.last (omega arith);
+          ∙ left_place before after numbers (length numbers - 1) (length before - 1) thinned.places (omega arith) thinned.last
+              (omega arith);
       places =
           subst (λ (ps : List Place). All (Contains before) ps) (sym thinned.places)
-          (All-map (Contains before) (place_at before) numbers (λ k d inside. Contains-get_or before (get_or numbers k d) nowhere (below k d inside)));
+          (All-map (Contains before) (place_at before) numbers (λ k d inside.
+              Contains-get_or before (get_or numbers k d) nowhere (below k d inside)));
       short = omega arith;
     }
 
-pub outcome_fits : (m : Map) (t : Terms) (after : Map) (records : List Record) → All IsArc m.arcs → IsOutcome m t after records → FitsIn m after
+pub outcome_fits : (m : Map) (t : Terms) (after : Map) (records : List Record) → All IsArc m.arcs → IsOutcome m t after records
+    → FitsIn m after
 outcome_fits m t after records were is =
     let thins = outcome_thins_arcs m t after records is in
     let are = outcome_has_arcs m t after records were is in

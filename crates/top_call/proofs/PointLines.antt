@@ -8,7 +8,8 @@ use Rattle.face_parity.specs.Lines.{line_of}
 abbrev pub lines_from : Map → ℕ → List ℕ
 lines_from m k = flat_map (line_of m) (range_with_len k (length m.points - k))
 
-by_count : (m : Map) (k n : ℕ) → flat_map (line_of m) (range_with_len k (suc n)) ≡ line_of m k ++ flat_map (line_of m) (range_with_len (k + 1) n)
+by_count : (m : Map) (k n : ℕ) → flat_map (line_of m) (range_with_len k (suc n)) ≡ line_of m k ++ flat_map (line_of m)
+    (range_with_len (k + 1) n)
 by_count m k n = refl
 
 pub next_line : (m : Map) (k : ℕ) → k < length m.points → lines_from m k ≡ line_of m k ++ lines_from m (k + 1)
@@ -17,7 +18,8 @@ next_line m k within =
     ap (λ (n : ℕ). flat_map (line_of m) (range_with_len k n)) count ∙ by_count m k (length m.points - (k + 1))
 
 -- the line of a point, as it was written, stands first
-pub next_written : (m : Map) (k : ℕ) (line : List ℕ) → k < length m.points → line ≡ line_of m k → lines_from m k ≡ line ++ lines_from m (k + 1)
+pub next_written : (m : Map) (k : ℕ) (line : List ℕ) → k < length m.points → line ≡ line_of m k
+    → lines_from m k ≡ line ++ lines_from m (k + 1)
 next_written m k line within is = next_line m k within ∙ ap (λ (xs : List ℕ). xs ++ lines_from m (k + 1)) (sym is)
 
 pub no_more : (m : Map) (k : ℕ) → length m.points ≤ k → lines_from m k ≡ []

@@ -35,7 +35,8 @@ pub all_stay : (ks : List Chain) → AllZip IsRunOf ks ks
 all_stay [] = tt
 all_stay (k ∷ ks) = (run_stays k, all_stay ks)
 
-one_replaced : (start ks : List Chain) (n : ℕ) (x : Chain) → AllZip IsRunOf start ks → IsRunOf (chain_at ks n) x → AllZip IsRunOf start (set ks n x)
+one_replaced : (start ks : List Chain) (n : ℕ) (x : Chain) → AllZip IsRunOf start ks → IsRunOf (chain_at ks n) x
+    → AllZip IsRunOf start (set ks n x)
 one_replaced [] [] n x runs here = tt
 one_replaced [] (k ∷ ks) n x runs here = absurd runs
 one_replaced (s ∷ ss) [] n x runs here = absurd runs
@@ -48,9 +49,11 @@ skipped_last : (v : Vertex) (skipped : List Vertex) (w : Vertex) (rest : List Ve
 skipped_last v [] w rest = refl
 skipped_last v (s ∷ ss) w rest = skipped_last s ss w rest
 
-path_last : (Allowed : Vertex → List Vertex → Vertex → Type 0) (v : Vertex) (ws us : List Vertex) → IsPath Allowed v ws us → end_of v us ≡ end_of v ws
+path_last : (Allowed : Vertex → List Vertex → Vertex → Type 0) (v : Vertex) (ws us : List Vertex) → IsPath Allowed v ws us
+    → end_of v us ≡ end_of v ws
 path_last Allowed v ws [] path = ap (λ (xs : List Vertex). end_of v xs) (sym path)
-path_last Allowed v ws (u ∷ us) path = path_last Allowed u path.1 us path.4 ∙ sym (skipped_last v path.0 u path.1) ∙ ap (λ (xs : List Vertex). end_of v xs) (sym path.2)
+path_last Allowed v ws (u ∷ us) path =
+    path_last Allowed u path.1 us path.4 ∙ sym (skipped_last v path.0 u path.1) ∙ ap (λ (xs : List Vertex). end_of v xs) (sym path.2)
 
 -- ---- the chains of a run
 
@@ -58,7 +61,8 @@ path_last Allowed v ws (u ∷ us) path = path_last Allowed u path.1 us path.4 �
 abbrev on_path : Chain → List ℕ → Chain
 on_path k kept = record k { rest = vertices_at k (drop 1 kept) }
 
-path_is_run : (t : Terms) (w : Work) (n : ℕ) (r : Record) → IsRecordOf t w n r → IsRunOf (chain_at w.chains n) (on_path (chain_at w.chains n) r.kept)
+path_is_run : (t : Terms) (w : Work) (n : ℕ) (r : Record) → IsRecordOf t w n r
+    → IsRunOf (chain_at w.chains n) (on_path (chain_at w.chains n) r.kept)
 path_is_run t w n r is =
     let k = chain_at w.chains n in
     let us = vertices_at k (drop 1 r.kept) in
@@ -67,10 +71,13 @@ path_is_run t w n r is =
     record {
       first = refl;
       last = path_last (IsAllowed (NearBy t) (IsOtherEdge w.chains n) (Contains w.read.points)) k.first k.rest us path;
-      one_way = λ runs. kept_monotone (IsAllowed (NearBy t) (IsOtherEdge w.chains n) (Contains w.read.points)) k.frame k.first k.rest us runs path;
+      one_way =
+          λ runs. kept_monotone (IsAllowed (NearBy t) (IsOtherEdge w.chains n) (Contains w.read.points)) k.frame k.first k.rest us runs
+          path;
     }
 
-pub runs_left : (start : List Chain) (t : Terms) (w : Work) (n more : ℕ) (records : List Record) (after : Work) → AllZip IsRunOf start w.chains → AreReplaced t w n more records after → AllZip IsRunOf start after.chains
+pub runs_left : (start : List Chain) (t : Terms) (w : Work) (n more : ℕ) (records : List Record) (after : Work)
+    → AllZip IsRunOf start w.chains → AreReplaced t w n more records after → AllZip IsRunOf start after.chains
 runs_left start t w n zero records after runs run = subst (λ (v : Work). AllZip IsRunOf start v.chains) run.1 runs
 runs_left start t w n (suc more) records after runs (inl run) = runs_left start t w (suc n) more records after runs run.1
 runs_left start t w n (suc more) records after runs (inr run) =

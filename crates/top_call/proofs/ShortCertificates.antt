@@ -1,5 +1,6 @@
 -- The certificate of a run is at most 2^26 bytes.
-use Rattle.std.proofs.Common.{◌≡◌, ◌∙◌, ℕ, suc, ℤ, ◌+◌, ◌*◌, ◌<◌, ◌≤◌, ◌^◌, Bool, true, false, List, [], ◌∷◌, All, inl, inr, map, length, drop, sum_by, refl, sym, ap, subst, arith}
+use Rattle.std.proofs.Common.{◌≡◌, ◌∙◌, ℕ, suc, ℤ, ◌+◌, ◌*◌, ◌<◌, ◌≤◌, ◌^◌, Bool, true, false, List, [], ◌∷◌, All, inl, inr, map, length}
+use Rattle.std.proofs.Common.{drop, sum_by, refl, sym, ap, subst, arith}
 use Rattle.std.specs.List.{AllByRecursion}
 use Rattle.std.proofs.lemmas.List.{get_or_default, length-append}
 use Rattle.std.proofs.lemmas.List.Elements.{All-nil, All-cons, All-head, All-tail}
@@ -82,7 +83,8 @@ records_are_short : (t : Terms) (m : Map) (w after : Work) (k : ℕ) (refs : Lis
     → All (LiesInArc m) refs → AllByRecursion IsRun (map (chain_in m) refs) → AreAsRead m w.chains k refs
     → AreReplaced t w k (length refs) records after
     → length (further (map record_text records)) ≤ 59 * sum_by edge_count (map (chain_in m) refs)
-records_are_short t m w after k [] records is_map lie runs read run = omega (arith, ap (λ (rs : List Record). length (further (map record_text rs))) run.0)
+records_are_short t m w after k [] records is_map lie runs read run =
+    omega (arith, ap (λ (rs : List Record). length (further (map record_text rs))) run.0)
 records_are_short t m w after k (r ∷ rs) records is_map lie runs read (inl run) =
     let later = records_are_short t m w after (suc k) rs records is_map (All-tail (LiesInArc m) r rs lie) runs.1 read.1 run.1 in
     omega (arith, later, sum_by-cons edge_count (chain_in m r) (map (chain_in m) rs))
@@ -91,7 +93,9 @@ records_are_short t m w after k (r ∷ rs) records is_map lie runs read (inr run
     let left = later_as_read m w.chains k (suc k) (vertices_at (chain_at w.chains k) (drop 1 one.kept)) rs (omega arith) read.1 in
     let of_edges = record_of_edges t m w k r one is_map (All-head (LiesInArc m) r rs lie) read.0 run.4 in
     let here = record_is_short (edge_count (chain_in m r)) one runs.0.edge runs.0.short of_edges in
-    let later = records_are_short t m (thinned_work w k one.kept) after (suc k) rs run.2 is_map (All-tail (LiesInArc m) r rs lie) runs.1 left run.5 in
+    let later =
+        records_are_short t m (thinned_work w k one.kept) after (suc k) rs run.2 is_map
+        (All-tail (LiesInArc m) r rs lie) runs.1 left run.5 in
     omega (
       arith,
       here,
@@ -111,7 +115,9 @@ outcome_is_short : (t : Terms) (m after : Map) (records : List Record) → IsMap
     → length (further (map record_text records)) + 59 * length m.arcs ≤ 59 * 2 ^ 20
 outcome_is_short t m after records is outcome =
     let chains = map (chain_in m) outcome.refs in
-    let short = records_are_short t m (work_of m outcome.refs) outcome.last 0 outcome.refs records is outcome.chains.lie (runs_of_arcs 0 m.arcs chains outcome.chains.cut) (left_as_read m chains 0 outcome.refs refl) outcome.replaced in
+    let short =
+        records_are_short t m (work_of m outcome.refs) outcome.last 0 outcome.refs records is outcome.chains.lie
+        (runs_of_arcs 0 m.arcs chains outcome.chains.cut) (left_as_read m chains 0 outcome.refs refl) outcome.replaced in
     omega (arith, short, edges_of_arcs 0 m.arcs chains is.arcs outcome.chains.cut, is.few_positions)
 
 pub certified_is_short : (options : Options) (bound : ℤ) (text bytes : List ℕ) → AreWeights options.weights → IsBound bound
@@ -128,4 +134,5 @@ certified_is_short options bound text bytes weights is_bound is =
       up = limits.up_high;
       held = λ k d within. omega (arith, held_are_arcs options.hold m is.held is.run.loaded.beside k d within, is_map.few_arcs);
     }) in
-    omega (arith, ap length is.written, parts, few, outcome_is_short (terms_of options bound is.held) m is.after is.records is_map is.run.outcome)
+    omega (arith, ap length is.written, parts, few, outcome_is_short
+        (terms_of options bound is.held) m is.after is.records is_map is.run.outcome)

@@ -1,7 +1,8 @@
 -- The text with the arcs of the outcome of a run is at most 2^27 bytes.
 use Rattle.std.specs.Prelude.{codes}
 use Rattle.std.specs.Fmt.{signed_decimal}
-use Rattle.std.proofs.Common.{◌≡◌, ℕ, suc, ◌+◌, ◌*◌, ◌≤◌, ◌^◌, Bool, true, false, List, [], ◌∷◌, ◌++◌, All, map, length, take, drop, sum_by, refl, ap, arith, length-drop}
+use Rattle.std.proofs.Common.{◌≡◌, ℕ, suc, ◌+◌, ◌*◌, ◌≤◌, ◌^◌, Bool, true, false, List, [], ◌∷◌, ◌++◌, All, map, length, take, drop, sum_by}
+use Rattle.std.proofs.Common.{refl, ap, arith, length-drop}
 use Rattle.std.proofs.lemmas.Int.{ints}
 use Rattle.std.proofs.lemmas.List.{length-append, length-take-le}
 use Rattle.std.proofs.lemmas.List.Elements.{All-nil, All-cons, All-head, All-tail}
@@ -29,7 +30,8 @@ place_is_short p on = record {
 
 way_is_short : (p q : Place) → IsOnGrid p → IsOnGrid q → IsShort (difference p q)
 way_is_short p q from to = record {
-  across = record { low = omega (arith, ints, from.across.high, to.across.low); high = omega (arith, ints, from.across.low, to.across.high) };
+  across =
+      record { low = omega (arith, ints, from.across.high, to.across.low); high = omega (arith, ints, from.across.low, to.across.high) };
   up = record { low = omega (arith, ints, from.up.high, to.up.low); high = omega (arith, ints, from.up.low, to.up.high) };
 }
 
@@ -62,7 +64,8 @@ differences_are_short : (p : Place) (qs : List Place) → IsOnGrid p → All IsO
 differences_are_short p [] from on = All-nil IsShort
 differences_are_short p (q ∷ qs) from on =
     let here = All-head IsOnGrid q qs on in
-    All-cons IsShort (difference p q) (differences q qs) (way_is_short p q from here) (differences_are_short q qs here (All-tail IsOnGrid q qs on))
+    All-cons IsShort (difference p q) (differences q qs) (way_is_short p q from here)
+        (differences_are_short q qs here (All-tail IsOnGrid q qs on))
 
 coded_are_short : (coded : Bool) (p : Place) (qs : List Place) → IsOnGrid p → All IsOnGrid qs → All IsShort (coded_positions coded p qs)
 coded_are_short true p qs from on = differences_are_short p qs from on
@@ -96,12 +99,14 @@ arc_with : (coded : Bool) (p : Place) (qs : List Place) → IsOnGrid p → All I
     → length (list_text (map position_text (p ∷ coded_positions coded p qs))) ≤ 27 + 26 * length qs
 arc_with coded p qs from on =
     let all = All-cons IsShort p (coded_positions coded p qs) (place_is_short p from) (coded_are_short coded p qs from on) in
-    omega (arith, further_positions (p ∷ coded_positions coded p qs) all, coded_count coded p qs, list_is (position_text p) (map position_text (coded_positions coded p qs)))
+    omega (arith, further_positions (p ∷ coded_positions coded p qs) all, coded_count coded p qs, list_is (position_text p)
+        (map position_text (coded_positions coded p qs)))
 
 arc_fits : (coded : Bool) (ps : List Place) → IsArc ps → All IsOnGrid ps → length (arc_text coded ps) ≤ 53 * length ps
 arc_fits coded [] is on = absurd is
 arc_fits coded (p ∷ []) is on = omega (arith, arc_with coded p (p ∷ []) (All-head IsOnGrid p [] on) on)
-arc_fits coded (p ∷ q ∷ ps) is on = omega (arith, arc_with coded p (q ∷ ps) (All-head IsOnGrid p (q ∷ ps) on) (All-tail IsOnGrid p (q ∷ ps) on))
+arc_fits coded (p ∷ q ∷ ps) is on =
+    omega (arith, arc_with coded p (q ∷ ps) (All-head IsOnGrid p (q ∷ ps) on) (All-tail IsOnGrid p (q ∷ ps) on))
 
 further_arcs : (coded : Bool) (arcs : List (List Place)) → All IsArc arcs → All (All IsOnGrid) arcs
     → length (behind_commas (map (arc_text coded) arcs)) ≤ 54 * sum_by length arcs

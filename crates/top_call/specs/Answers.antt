@@ -1,5 +1,6 @@
 -- The answer to the words of a command line over the texts that are held, in the order in which it is found: words, texts, map, work.
-use Rattle.std.specs.Prelude.{◌≡◌, ◌≢◌, ℕ, ℤ, Bool, true, false, List, [], ◌∷◌, ◌++◌, nat_lt, if◌then◌else◌, length, sum_by, Option, None, Some, codes, decimal}
+use Rattle.std.specs.Prelude.{◌≡◌, ◌≢◌, ℕ, ℤ, pos, Bool, true, false, List, [], ◌∷◌, ◌++◌, nat_lt, if◌then◌else◌, length, map, sum_by}
+use Rattle.std.specs.Prelude.{Option, None, Some, codes, decimal}
 use Rattle.std.specs.List.{flat_map, range_with_len}
 use Rattle.grid_exact.specs.Weights.{Scales}
 use Rattle.outside_io.specs.Texts.{Texts}
@@ -15,6 +16,8 @@ use Rattle.topo_writer.specs.ArcsText.{arcs_text_of}
 use Rattle.map_gen.specs.Make.{made}
 use Rattle.dissolve.specs.Border.{IsBorder}
 use Rattle.dissolve.specs.Texts.{rings_text}
+use Rattle.pyramid.specs.Levels.{AreRanks}
+use Rattle.pyramid.specs.Texts.{ranks_text}
 use Rattle.face_parity.specs.Lines.{line_of}
 use Rattle.cert_format.specs.Certificate.{Content, IsCertificate, certificate_text, content}
 use Rattle.chain_replace.specs.Run.{Terms, IsOutcome}
@@ -29,7 +32,7 @@ use Rattle.top_call.specs.declared.status.Limit.TheVariants.{Text}
 use Rattle.top_call.specs.declared.status.Role.{Role}
 use Rattle.top_call.specs.declared.status.Status.{Status}
 use Rattle.top_call.specs.declared.status.Status.TheVariants.{Done, No, Usage, TooLarge, ReadFault, NoPolygon}
-use Rattle.top_call.specs.Words.{Form, Simplify, Layers, Check, Faces, Make, Demo, Dissolve, form_of}
+use Rattle.top_call.specs.Words.{Form, Simplify, Layers, Check, Faces, Make, Demo, Dissolve, Pyramid, form_of}
 use Rattle.top_call.specs.Reading.{Read, named, AreRead, AreShort, IsFirstPast, IsFirstUnheld}
 use Rattle.top_call.specs.Maps.{IsLoaded, IsRefusal, scales_of}
 use Rattle.top_call.specs.Verdicts.{verdict_line}
@@ -55,7 +58,8 @@ abbrev pub terms_of : Options → ℤ → List ℕ → Terms
 terms_of options bound held = record { held = held; bound = bound; weights = scales_of options.weights }
 
 -- over the map of the text, with its held arcs, a run comes to this map with these records
-pub record IsRun (options : Options) (bound : ℤ) (text : List ℕ) (t : TopologyRead) (held : List ℕ) (after : Map) (records : List Record) : Type 0 where
+pub record IsRun (options : Options) (bound : ℤ) (text : List ℕ) (t : TopologyRead) (held : List ℕ) (after : Map)
+    (records : List Record) : Type 0 where
   pub loaded : IsLoaded options text t held
   pub outcome : IsOutcome t.map (terms_of options bound held) after records
 
@@ -152,6 +156,19 @@ pub record IsMissing (polygons text : List ℕ) (polygon : ℕ) : Type 0 where
   pub loaded : IsLoaded plain text topology held
   pub first : first_missing (length topology.map.polygons) polygons ≡ Some polygon
 
+-- the text of the ranks of the positions of a map by the levels of these bounds
+pub record IsRanksText (m : Map) (bounds : List ℤ) (bytes : List ℕ) : Type 0 where
+  pub ranks : List (List ℕ)
+  pub are_ranks : AreRanks m bounds ranks
+  pub written : bytes ≡ ranks_text bounds ranks
+
+-- the map of the text is arranged, and this is the text of its ranks by the levels of these bounds
+pub record IsRanked (bounds text bytes : List ℕ) : Type 0 where
+  pub topology : TopologyRead
+  pub held : List ℕ
+  pub loaded : IsLoaded plain text topology held
+  pub is_text : IsRanksText topology.map (map pos bounds) bytes
+
 -- ---- what `check` finds
 
 -- the bytes are the text of this certificate
@@ -160,7 +177,8 @@ pub record IsTextOf (bytes : List ℕ) (c : Content) : Type 0 where
   pub text : certificate_text c ≡ bytes
 
 -- a certificate for the map of a text is judged, with this verdict, and the chains are these at the end
-pub record IsJudgedFor (options : Options) (bound : ℤ) (text cert : List ℕ) (t : TopologyRead) (verdict : Verdict) (after : List Chain) : Type 0 where
+pub record IsJudgedFor (options : Options) (bound : ℤ) (text cert : List ℕ) (t : TopologyRead) (verdict : Verdict)
+    (after : List Chain) : Type 0 where
   pub held : List ℕ
   pub loaded : IsLoaded options text t held
   pub content : Content
@@ -178,9 +196,14 @@ IsComparison expected out verdict = ⊥
 -- The verdict on what was written for FILE: CERT is no certificate; or it is refused for a reason; or else OUT is to be the text of FILE
 -- with the arcs of the judged map.
 pub data IsChecked (options : Options) (bound : ℤ) (read : Read) (verdict : Verdict) : Type 0 where
-  NotCertificate : (t : TopologyRead) (held : List ℕ) → IsLoaded options read.file t held → ((c : Content) → IsCertificate c → certificate_text c ≢ read.cert) → verdict ≡ verdicts.No NoForm → IsChecked options bound read verdict
-  IsRefuted : (t : TopologyRead) (reason : Reason) (after : List Chain) → IsJudgedFor options bound read.file read.cert t (verdicts.No reason) after → verdict ≡ verdicts.No reason → IsChecked options bound read verdict
-  IsCompared : (t : TopologyRead) (after : List Chain) → IsJudgedFor options bound read.file read.cert t verdicts.Yes after → IsComparison (text_with read.file t (map_now t.map after)) read.out verdict → IsChecked options bound read verdict
+  NotCertificate : (t : TopologyRead) (held : List ℕ) → IsLoaded options read.file t held
+      → ((c : Content) → IsCertificate c → certificate_text c ≢ read.cert) → verdict ≡ verdicts.No NoForm
+      → IsChecked options bound read verdict
+  IsRefuted : (t : TopologyRead) (reason : Reason) (after : List Chain)
+      → IsJudgedFor options bound read.file read.cert t (verdicts.No reason) after → verdict ≡ verdicts.No reason
+      → IsChecked options bound read verdict
+  IsCompared : (t : TopologyRead) (after : List Chain) → IsJudgedFor options bound read.file read.cert t verdicts.Yes after
+      → IsComparison (text_with read.file t (map_now t.map after)) read.out verdict → IsChecked options bound read verdict
 
 abbrev pub verdict_status : Verdict → Status
 verdict_status verdicts.Yes = Done
@@ -221,6 +244,7 @@ IsWorkAnswer (Faces file) read a = IsMapAnswer plain read.file (IsFaced read.fil
 IsWorkAnswer (Make rows cols seed) read a = a ≡ done (made rows cols seed)
 IsWorkAnswer (Demo rows cols seed bound) read a = IsMadeAnswer (IsDemoed rows cols seed bound) a
 IsWorkAnswer (Dissolve polygons file) read a = IsDissolveAnswer polygons read.file a
+IsWorkAnswer (Pyramid bounds file) read a = IsMapAnswer plain read.file (IsRanked bounds read.file) a
 
 -- ---- the whole
 

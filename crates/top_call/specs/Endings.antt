@@ -5,7 +5,8 @@ use Rattle.outside_io.specs.Texts.{Texts, AppendsPrefix}
 use Rattle.top_call.specs.declared.status.Role.{Role}
 use Rattle.top_call.specs.declared.status.Limit.TheVariants.{Text, Depth, Many}
 use Rattle.top_call.specs.declared.status.Status.{Status}
-use Rattle.top_call.specs.declared.status.Status.TheVariants.{Done, No, NotUtf8, NotJson, NotTopology, OffProfile, TooLarge, NotArranged, ReadFault, WriteFault, NoMemory, OffWeights, NoPolygon}
+use Rattle.top_call.specs.declared.status.Status.TheVariants.{Done, No, NotUtf8, NotJson, NotTopology, OffProfile, TooLarge, NotArranged}
+use Rattle.top_call.specs.declared.status.Status.TheVariants.{ReadFault, WriteFault, NoMemory, OffWeights, NoPolygon}
 use Rattle.top_call.specs.Words.{Form}
 use Rattle.top_call.specs.Reading.{Named, named, limit_of, AreHeld, IsFirstPast}
 use Rattle.top_call.specs.Answers.{Answer}
@@ -51,14 +52,16 @@ pub record HasFault (fault : Status) (before now : ℕ) (result : Status) : Type
 -- ---- what was read
 
 -- What a run may say of the texts that it reads, by the count of faults, the strays and the bytes given before and after.
-pub record ReadsTexts (tells : Bool) (texts : Texts) (names : List Named) (faults faults_now strays strays_now given : ℕ) (result : Status) : Type 0 where
+pub record ReadsTexts (tells : Bool) (texts : Texts) (names : List Named) (faults faults_now strays strays_now given : ℕ)
+    (result : Status) : Type 0 where
   -- reading failed only where a call failed, and no failed call is passed over
   pub fault : HasFault ReadFault faults faults_now result
   -- a text is said to be too long only where it is the first past its limit, or at least gave as many bytes
   pub too_long : IsTrue tells → (role : Role) → result ≡ TooLarge (Text role) → IsFirstPast texts names role
   pub too_long_given : (role : Role) → result ≡ TooLarge (Text role) → limit_of role < given
   -- and it is said of that text, unless a call failed or memory was wanting
-  pub past_limit : IsTrue tells → ¬ (Rose faults faults_now) → (role : Role) → IsFirstPast texts names role → (result ≡ TooLarge (Text role)) ⊎ (result ≡ NoMemory)
+  pub past_limit : IsTrue tells → ¬ (Rose faults faults_now) → (role : Role) → IsFirstPast texts names role
+      → (result ≡ TooLarge (Text role)) ⊎ (result ≡ NoMemory)
   -- no name is asked for but these
   pub strays_stay : IsTrue tells → AreHeld texts names → strays_now ≡ strays
 
@@ -85,7 +88,8 @@ pub record IsPartWritten (before now whole rest : List ℕ) : Type 0 where
 
 -- the bytes were written, and the run ended with this status; or a write failed
 abbrev pub Replies : Bool → List ℕ → List ℕ → List ℕ → Status → Status → Type 0
-Replies tells before now bytes status result = ((result ≡ status) × Wrote tells before now bytes) ⊎ ((result ≡ WriteFault) × WrotePrefix tells before now bytes)
+Replies tells before now bytes status result =
+    ((result ≡ status) × Wrote tells before now bytes) ⊎ ((result ≡ WriteFault) × WrotePrefix tells before now bytes)
 
 -- The run ended as an answer says; or a write failed, and a prefix of its bytes was written; or memory was wanting or a call of the inputs
 -- failed, and then the answer is not known.
@@ -97,4 +101,5 @@ Settles IsIt tells before now status = (a : Answer) × IsIt a × (status ≡ a.s
 
 -- The message stands behind what was written before, or a prefix of it where a write failed.
 abbrev pub Notes : ℕ → ℕ → List ℕ → List ℕ → List ℕ → Type 0
-Notes faults_before faults_now before now message = (now ≡ before ++ message) ⊎ (Rose faults_before faults_now × AppendsPrefix before now message)
+Notes faults_before faults_now before now message =
+    (now ≡ before ++ message) ⊎ (Rose faults_before faults_now × AppendsPrefix before now message)

@@ -1,6 +1,8 @@
 -- What is promised of a run: the text that `simplify` writes is faithful to the one that it was given, a text that loads is worked on, what
--- was written for it is judged and found right, what `dissolve` writes is a border, and `make` and `demo` refuse nothing.
-use Rattle.std.specs.Prelude.{◌≡◌, ◌≢◌, ◌↔◌, ◌⊎◌, ◌-◌, ◌<◌, ◌≤◌, ℕ, ℤ, Bool, false, List, ◌++◌, All, AllPairs, Contains, length, take, get_or, Some}
+-- was written for it is judged and found right, what `dissolve` writes is a border, what `pyramid` writes are the ranks of levels, and
+-- `make` and `demo` refuse nothing.
+use Rattle.std.specs.Prelude.{◌≡◌, ◌≢◌, ◌↔◌, ◌⊎◌, ◌-◌, ◌<◌, ◌≤◌, ℕ, ℤ, Bool, false, List, ◌++◌, All, AllPairs, Contains, length, take}
+use Rattle.std.specs.Prelude.{get_or, Some}
 use Rattle.grid_exact.specs.Geometry.{Place}
 use Rattle.grid_exact.specs.Paths.{Certifies}
 use Rattle.arc_map.specs.Arcs.{is_inside_of}
@@ -22,12 +24,12 @@ use Rattle.top_call.specs.declared.forms.Options.{Options}
 use Rattle.top_call.specs.declared.status.Role.TheVariants.{File, Out, Cert}
 use Rattle.top_call.specs.declared.status.Status.{Status}
 use Rattle.top_call.specs.declared.status.Status.TheVariants.{Done, No, WriteFault, NoMemory}
-use Rattle.top_call.specs.Words.{Form, Simplify, Layers, Check, Faces, Make, Demo, Dissolve, form_of}
+use Rattle.top_call.specs.Words.{Form, Simplify, Layers, Check, Faces, Make, Demo, Dissolve, Pyramid, form_of}
 use Rattle.top_call.specs.Reading.{limit_of, IsWithin}
 use Rattle.top_call.specs.Maps.{IsLoaded}
 use Rattle.top_call.specs.Requests.{IsWithinLimits}
 use Rattle.top_call.specs.Verdicts.{verdict_line}
-use Rattle.top_call.specs.Answers.{done, plain, terms_of, text_with, IsFormAnswer}
+use Rattle.top_call.specs.Answers.{done, plain, terms_of, text_with, IsRanked, IsFormAnswer}
 use Rattle.top_call.specs.Endings.{Wrote}
 
 -- ---- what is written of a text that is simplified
@@ -60,12 +62,14 @@ pub record IsFaithful (options : Options) (bound : ℤ) (text bytes : List ℕ) 
   -- the same polygons
   pub faces : KeepsFaces held topology.map after
   -- what is left of each chain is a path of pairs that were allowed when its turn came, and no such path has fewer vertices
-  pub fewest : (n : ℕ) (d : Record) → n < length records → IsFewest (terms_of options bound held) (work_of topology.map run.refs) records n (get_or records n d)
+  pub fewest : (n : ℕ) (d : Record) → n < length records → IsFewest (terms_of options bound held) (work_of topology.map run.refs) records n
+      (get_or records n d)
 
 -- What `simplify` writes of a text that is held, where it is done, is faithful to the text.
 abbrev pub Headline : List (List ℕ) → Texts → List ℕ → List ℕ → Status → Type 0
 Headline words texts before now result =
-    (options : Options) (bound : ℤ) (file text bytes : List ℕ) → form_of words ≡ Some (Simplify options bound file) → text_of texts file ≡ Some text → result ≡ Done → now ≡ before ++ bytes → IsFaithful options bound text bytes
+    (options : Options) (bound : ℤ) (file text bytes : List ℕ) → form_of words ≡ Some (Simplify options bound file)
+        → text_of texts file ≡ Some text → result ≡ Done → now ≡ before ++ bytes → IsFaithful options bound text bytes
 
 -- ---- which texts are worked on
 
@@ -89,6 +93,7 @@ CanWork (Simplify options bound file) texts = IsReady options texts file
 CanWork (Layers options bound file) texts = IsReady options texts file
 CanWork (Faces file) texts = IsReady plain texts file
 CanWork (Dissolve polygons file) texts = HasPolygons polygons texts file
+CanWork (Pyramid bounds file) texts = IsReady plain texts file
 CanWork f texts = ⊥
 
 -- where FILE is ready, its work is done, or memory was wanting
@@ -109,7 +114,9 @@ IsJudgingStatus s = (s ≡ Done) ⊎ (((reason : Reason) × (s ≡ No reason)) �
 
 -- where FILE is ready, and OUT and CERT are held and short enough, `check` ends in no other way
 abbrev pub Judges : List (List ℕ) → Texts → Status → Type 0
-Judges words texts result = (options : Options) (bound : ℤ) (file out cert : List ℕ) → form_of words ≡ Some (Check options bound file out cert) → CanJudge options texts file out cert → IsJudgingStatus result
+Judges words texts result =
+    (options : Options) (bound : ℤ) (file out cert : List ℕ) → form_of words ≡ Some (Check options bound file out cert)
+    → CanJudge options texts file out cert → IsJudgingStatus result
 
 -- ---- what was written for FILE
 
@@ -129,7 +136,8 @@ pub record AreWrittenFor (options : Options) (bound : ℤ) (texts : Texts) (file
 -- where they are, `check` with the same options and bound says yes
 abbrev pub ReachesYes : List (List ℕ) → Texts → Bool → List ℕ → List ℕ → Status → Type 0
 ReachesYes words texts tells before now result =
-    (options : Options) (bound : ℤ) (file out cert : List ℕ) → form_of words ≡ Some (Check options bound file out cert) → AreWrittenFor options bound texts file out cert → Finishes tells before now (verdict_line Yes) result
+    (options : Options) (bound : ℤ) (file out cert : List ℕ) → form_of words ≡ Some (Check options bound file out cert)
+        → AreWrittenFor options bound texts file out cert → Finishes tells before now (verdict_line Yes) result
 
 -- OUT is held, is what `simplify` answers to FILE, and is no longer than FILE may be
 pub record IsWrittenFor (options : Options) (bound : ℤ) (texts : Texts) (file out : List ℕ) : Type 0 where
@@ -140,7 +148,8 @@ pub record IsWrittenFor (options : Options) (bound : ℤ) (texts : Texts) (file 
   pub simplified : IsFormAnswer (Simplify options bound file) texts (done written)
 
 -- `faces` ends on OUT as it is answered to FILE
-pub record FacesAlike (options : Options) (texts : Texts) (file : List ℕ) (tells : Bool) (before now : List ℕ) (result : Status) : Type 0 where
+pub record FacesAlike (options : Options) (texts : Texts) (file : List ℕ) (tells : Bool) (before now : List ℕ)
+    (result : Status) : Type 0 where
   -- where no arcs are to be held, FILE is answered with some lines
   pub has_lines : options.hold ≡ false → (lines : List ℕ) × IsFormAnswer (Faces file) texts (done lines)
   -- lines with which FILE is answered are written of OUT
@@ -149,7 +158,8 @@ pub record FacesAlike (options : Options) (texts : Texts) (file : List ℕ) (tel
 -- where OUT is so, `faces` writes of it the lines of FILE
 abbrev pub KeepsLines : List (List ℕ) → Texts → Bool → List ℕ → List ℕ → Status → Type 0
 KeepsLines words texts tells before now result =
-    (options : Options) (bound : ℤ) (file out : List ℕ) → form_of words ≡ Some (Faces out) → IsWrittenFor options bound texts file out → FacesAlike options texts file tells before now result
+    (options : Options) (bound : ℤ) (file out : List ℕ) → form_of words ≡ Some (Faces out) → IsWrittenFor options bound texts file out
+        → FacesAlike options texts file tells before now result
 
 -- ---- what is written of polygons that are dissolved
 
@@ -170,12 +180,22 @@ pub record IsBorderOf (polygons text bytes : List ℕ) : Type 0 where
   pub used : (k : ℕ) → Contains (arcs_used rings) k ↔ Contains (odd_arcs topology.map polygons) k
   pub once : AllPairs (λ j k. j ≢ k) (arcs_used rings)
   -- from each place the rings are crossed as often, modulo 2, as these polygons in sum
-  pub crossed : (p : Place) → is_inside_of p topology.map.arcs (arcs_used rings) ≡ is_inside_of p topology.map.arcs (named_arcs topology.map polygons)
+  pub crossed : (p : Place) → is_inside_of p topology.map.arcs (arcs_used rings) ≡ is_inside_of p topology.map.arcs
+      (named_arcs topology.map polygons)
 
 -- What `dissolve` writes of a text that is held, where it is done, is the border of the polygons.
 abbrev pub Borders : List (List ℕ) → Texts → List ℕ → List ℕ → Status → Type 0
 Borders words texts before now result =
-    (polygons file text bytes : List ℕ) → form_of words ≡ Some (Dissolve polygons file) → text_of texts file ≡ Some text → result ≡ Done → now ≡ before ++ bytes → IsBorderOf polygons text bytes
+    (polygons file text bytes : List ℕ) → form_of words ≡ Some (Dissolve polygons file) → text_of texts file ≡ Some text → result ≡ Done
+        → now ≡ before ++ bytes → IsBorderOf polygons text bytes
+
+-- ---- what is written of levels
+
+-- What `pyramid` writes of a text that is held, where it is done, are the ranks of its map by the levels of the bounds.
+abbrev pub Levels : List (List ℕ) → Texts → List ℕ → List ℕ → Status → Type 0
+Levels words texts before now result =
+    (bounds file text bytes : List ℕ) → form_of words ≡ Some (Pyramid bounds file) → text_of texts file ≡ Some text → result ≡ Done
+    → now ≡ before ++ bytes → IsRanked bounds text bytes
 
 -- ---- the forms that make a coverage
 

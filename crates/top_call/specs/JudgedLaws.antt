@@ -67,7 +67,8 @@ pub record AreRight (options : Options) (bound : ℤ) (read : Read) : Type 0 whe
   -- and each chain has fewest vertices in the map as it was found
   pub content : Content
   pub is_content : IsTextOf read.cert content
-  pub fewest : EachKeepsFewest (demand (version_of options) bound (scales_of options.weights)) topology.map.points (work_of topology.map refs).chains (free_numbers held refs) content.entries
+  pub fewest : EachKeepsFewest (demand (version_of options) bound (scales_of options.weights)) topology.map.points
+      (work_of topology.map refs).chains (free_numbers held refs) content.entries
 
 -- Where the verdict of `check` is Yes, OUT and CERT are right for FILE.
 abbrev pub CheckedYesAreRight : Type 0

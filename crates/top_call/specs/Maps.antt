@@ -22,7 +22,8 @@ use Rattle.top_call.specs.declared.loading.Loaded.{Loaded}
 use Rattle.top_call.specs.declared.status.Limit.TheVariants.{Depth, Many}
 use Rattle.top_call.specs.declared.status.Meeting.TheVariants.{Edges, PointOnArc}
 use Rattle.top_call.specs.declared.status.Status.{Status}
-use Rattle.top_call.specs.declared.status.Status.TheVariants.{NotUtf8, NotJson, NotTopology, OffProfile, TooLarge, NotArranged, NoMemory, OffWeights}
+use Rattle.top_call.specs.declared.status.Status.TheVariants.{NotUtf8, NotJson, NotTopology, OffProfile, TooLarge, NotArranged, NoMemory}
+use Rattle.top_call.specs.declared.status.Status.TheVariants.{OffWeights}
 
 -- ---- the topology of a text
 
@@ -57,7 +58,8 @@ fault_status faults.NoMemory = NoMemory
 -- the text is refused: it is no JSON text, or it is too deep, or it is no topology
 pub data IsTextRefusal (text : List ℕ) (status : Status) : Type 0 where
   NoTree : (e : ScanError) → IsRefusedFor text e → status ≡ scan_status e → IsTextRefusal text status
-  NoTopology : (tree : Tree) (fault : ReadFault) → HasTree text tree → topology_of tree ≡ Err fault → status ≡ fault_status fault → IsTextRefusal text status
+  NoTopology : (tree : Tree) (fault : ReadFault) → HasTree text tree → topology_of tree ≡ Err fault → status ≡ fault_status fault
+      → IsTextRefusal text status
 
 -- ---- weights
 
@@ -108,8 +110,10 @@ pub record IsLoaded (options : Options) (text : List ℕ) (t : TopologyRead) (he
 -- arranged and no arcs are to be held.
 pub data IsRefusal (options : Options) (text : List ℕ) (status : Status) : Type 0 where
   NoMap : IsTextRefusal text status → IsRefusal options text status
-  OffGrid : (t : TopologyRead) (w : Scales) (arc at : ℕ) → HasTopology text t → options.weights ≡ Some w → IsFirstOffIn w t.map.arcs arc at → status ≡ OffWeights arc at → IsRefusal options text status
-  Unarranged : (t : TopologyRead) → HasTopology text t → StayOnGrid options t.map → IsUnarranged options.hold t.map status → IsRefusal options text status
+  OffGrid : (t : TopologyRead) (w : Scales) (arc at : ℕ) → HasTopology text t → options.weights ≡ Some w → IsFirstOffIn w t.map.arcs arc at
+      → status ≡ OffWeights arc at → IsRefusal options text status
+  Unarranged : (t : TopologyRead) → HasTopology text t → StayOnGrid options t.map → IsUnarranged options.hold t.map status
+      → IsRefusal options text status
 
 -- a text is refused, or memory is wanting
 abbrev pub IsRefused : Options → List ℕ → Status → Type 0

@@ -14,7 +14,8 @@ use Rattle.top_call.specs.declared.status.Limit.TheVariants.{Text, Depth, Many}
 use Rattle.top_call.specs.declared.status.Meeting.{Meeting}
 use Rattle.top_call.specs.declared.status.Meeting.TheVariants.{Edges, PointOnArc}
 use Rattle.top_call.specs.declared.status.Status.{Status}
-use Rattle.top_call.specs.declared.status.Status.TheVariants.{Done, No, Usage, NotUtf8, NotJson, NotTopology, OffProfile, TooLarge, NotArranged, ReadFault, WriteFault, NoMemory, OffWeights, NoPolygon}
+use Rattle.top_call.specs.declared.status.Status.TheVariants.{Done, No, Usage, NotUtf8, NotJson, NotTopology, OffProfile, TooLarge}
+use Rattle.top_call.specs.declared.status.Status.TheVariants.{NotArranged, ReadFault, WriteFault, NoMemory, OffWeights, NoPolygon}
 
 abbrev pub shape_words : ShapeKind → List ℕ
 shape_words shapes.NotObject = codes "not an object"
@@ -51,23 +52,30 @@ limit_line (Depth at) = codes "too large: depth at " ++ decimal at ++ codes "\n"
 limit_line (Many what at) = codes "too large: " ++ what_words what ++ codes " at " ++ decimal at ++ codes "\n"
 
 abbrev pub edges_line : EdgeRef → EdgeRef → List ℕ
-edges_line e f = codes "arc " ++ decimal e.arc ++ codes " edge " ++ decimal e.at ++ codes " meets arc " ++ decimal f.arc ++ codes " edge " ++ decimal f.at ++ codes "\n"
+edges_line e f =
+    codes "arc " ++ decimal e.arc ++ codes " edge " ++ decimal e.at ++ codes " meets arc " ++ decimal f.arc ++ codes " edge "
+    ++ decimal f.at ++ codes "\n"
 
 abbrev pub point_line : ℕ → EdgeRef → List ℕ
-point_line point e = codes "point " ++ decimal point ++ codes " lies on arc " ++ decimal e.arc ++ codes " edge " ++ decimal e.at ++ codes "\n"
+point_line point e =
+    codes "point " ++ decimal point ++ codes " lies on arc " ++ decimal e.arc ++ codes " edge " ++ decimal e.at ++ codes "\n"
 
 abbrev pub meeting_line : Meeting → List ℕ
 meeting_line (Edges e f) = edges_line e f
 meeting_line (PointOnArc point e) = point_line point e
 
 abbrev pub off_weights_line : ℕ → ℕ → List ℕ
-off_weights_line arc position = codes "weights take arc " ++ decimal arc ++ codes " position " ++ decimal position ++ codes " off the grid\n"
+off_weights_line arc position =
+    codes "weights take arc " ++ decimal arc ++ codes " position " ++ decimal position ++ codes " off the grid\n"
 
 abbrev pub no_polygon_line : ℕ → List ℕ
 no_polygon_line polygon = codes "no polygon " ++ decimal polygon ++ codes "\n"
 
 unfoldable pub usage_line : List ℕ
-usage_line = codes "usage: simplify [--hold] [--weights WX WY] E FILE, layers [--hold] [--weights WX WY] E FILE, check [--hold] [--weights WX WY] E FILE OUT CERT, faces FILE, make R C SEED, demo R C SEED E, dissolve LIST FILE\n"
+usage_line =
+    codes "usage: simplify [--hold] [--weights WX WY] E FILE, layers [--hold] [--weights WX WY] E FILE, "
+    ++ codes "check [--hold] [--weights WX WY] E FILE OUT CERT, faces FILE, make R C SEED, demo R C SEED E, "
+    ++ codes "dissolve LIST FILE, pyramid BOUNDS FILE\n"
 
 -- the line that tells a status; `Done` and `No` have none
 abbrev pub message_of : Status → List ℕ

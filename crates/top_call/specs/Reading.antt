@@ -1,5 +1,6 @@
 -- The texts that a form names, and how their reading ends.
-use Rattle.std.specs.Prelude.{◌≡◌, ◌≢◌, ◌<◌, ◌≤◌, ◌^◌, ◌⊎◌, ℕ, Bool, List, [], ◌∷◌, length, Option, None, Some, Result, IsTrue, IsSome, IsSomeAnd, IfOk, IfErr, OnOk, IsErrOf}
+use Rattle.std.specs.Prelude.{◌≡◌, ◌≢◌, ◌<◌, ◌≤◌, ◌^◌, ◌⊎◌, ℕ, Bool, List, [], ◌∷◌, length, Option, None, Some, Result, IsTrue, IsSome}
+use Rattle.std.specs.Prelude.{IsSomeAnd, IfOk, IfErr, OnOk, IsErrOf}
 use Rattle.outside_io.specs.Causes.{Rose}
 use Rattle.outside_io.specs.Texts.{Texts, text_of}
 use Rattle.top_call.specs.declared.status.Role.{Role}
@@ -8,7 +9,7 @@ use Rattle.top_call.specs.declared.status.Limit.TheVariants.{Text}
 use Rattle.top_call.specs.declared.status.Status.{Status}
 use Rattle.top_call.specs.declared.status.Status.TheVariants.{TooLarge, ReadFault, NoMemory}
 use Rattle.top_call.specs.declared.texts.Texts.{Texts as HeldTexts}
-use Rattle.top_call.specs.Words.{Form, Simplify, Layers, Check, Faces, Make, Demo, Dissolve}
+use Rattle.top_call.specs.Words.{Form, Simplify, Layers, Check, Faces, Make, Demo, Dissolve, Pyramid}
 
 -- the most bytes of the text of a role
 abbrev pub limit_of : Role → ℕ
@@ -29,6 +30,7 @@ named (Faces file) = (File, file) ∷ []
 named (Make rows cols seed) = []
 named (Demo rows cols seed bound) = []
 named (Dissolve polygons file) = (File, file) ∷ []
+named (Pyramid bounds file) = (File, file) ∷ []
 
 -- ---- what is held
 
@@ -48,7 +50,8 @@ AreHeld texts (n ∷ ns) = IsSome (text_of texts n.1) × AreHeld texts ns
 -- the text of this role is the first that is past its limit, and those before it are held and within theirs
 abbrev pub IsFirstPast : Texts → List Named → Role → Type 0
 IsFirstPast texts [] role = ⊥
-IsFirstPast texts (n ∷ ns) role = ((role ≡ n.0) × IsPast n.0 (text_of texts n.1)) ⊎ (IsWithin n.0 (text_of texts n.1) × IsFirstPast texts ns role)
+IsFirstPast texts (n ∷ ns) role =
+    ((role ≡ n.0) × IsPast n.0 (text_of texts n.1)) ⊎ (IsWithin n.0 (text_of texts n.1) × IsFirstPast texts ns role)
 
 -- a text is the first that is not held, and those before it are held and within their limits
 abbrev pub IsFirstUnheld : Texts → List Named → Type 0
@@ -93,7 +96,8 @@ IsReadingStatus status = ⊥
 
 -- What the reading of the texts with these names may say, by what the inputs tell, and by the count of faults, the strays and the bytes
 -- given, before and after.
-pub record ReadsNames (tells : Bool) (texts : Texts) (names : List Named) (faults faults_now strays strays_now given : ℕ) (result : Result HeldTexts Status) : Type 0 where
+pub record ReadsNames (tells : Bool) (texts : Texts) (names : List Named) (faults faults_now strays strays_now given : ℕ)
+    (result : Result HeldTexts Status) : Type 0 where
   -- the texts are those of the names, and each is within its limit
   pub read : IsTrue tells → IfOk result (λ held. AreRead texts names (texts_read held))
   pub short : IfOk result (λ held. AreShort (texts_read held))
@@ -106,6 +110,7 @@ pub record ReadsNames (tells : Bool) (texts : Texts) (names : List Named) (fault
   pub past : IsTrue tells → IfErr result (λ s. (role : Role) → s ≡ TooLarge (Text role) → IsFirstPast texts names role)
   pub too_large : IfErr result (λ s. (role : Role) → s ≡ TooLarge (Text role) → limit_of role < given)
   -- and it is said of that text, unless a call failed or memory was wanting
-  pub past_limit : IsTrue tells → ¬ (Rose faults faults_now) → (role : Role) → IsFirstPast texts names role → IsErrOf result (TooLarge (Text role)) ⊎ IsErrOf result NoMemory
+  pub past_limit : IsTrue tells → ¬ (Rose faults faults_now) → (role : Role) → IsFirstPast texts names role
+      → IsErrOf result (TooLarge (Text role)) ⊎ IsErrOf result NoMemory
   -- no name is asked for but these
   pub strays_stay : IsTrue tells → AreHeld texts names → strays_now ≡ strays

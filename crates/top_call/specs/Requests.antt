@@ -1,12 +1,14 @@
 -- A request, and the words that make it.
-use Rattle.std.specs.Prelude.{◌≡◌, ◌≢◌, ◌≤◌, ◌+◌, ◌^◌, ◌≤ℤ◌, ℤ, pos, unsigned_abs, ℕ, Bool, true, false, List, [], ◌∷◌, ◌++◌, length, map, Option, Some, None, String, string_bytes, codes, decimal, IsTrue}
+use Rattle.std.specs.Prelude.{◌≡◌, ◌≢◌, ◌≤◌, ◌+◌, ◌^◌, ◌≤ℤ◌, ℤ, pos, unsigned_abs, ℕ, Bool, true, false, List, [], ◌∷◌, ◌++◌, length, map}
+use Rattle.std.specs.Prelude.{Option, Some, None, String, string_bytes, codes, decimal, IsTrue}
 use Rattle.std.specs.declared.alloc.Global.{Global}
 use Rattle.std.specs.List.{join_with_byte}
 use Rattle.grid_exact.specs.Weights.{Scales, IsWeight}
 use Rattle.top_call.specs.declared.forms.Options.{Options}
 use Rattle.top_call.specs.declared.forms.Request.{Request}
 use Rattle.top_call.specs.declared.forms.Request.TheVariants as requests
-use Rattle.top_call.specs.Words.{Form, Simplify, Layers, Check, Faces, Make, Demo, Dissolve, is_name, are_names, polygons_in}
+use Rattle.top_call.specs.Words.{Form, Simplify, Layers, Check, Faces, Make, Demo, Dissolve, Pyramid, is_name, are_names, polygons_in}
+use Rattle.top_call.specs.Words.{bounds_in}
 
 -- the bytes of each word
 abbrev pub bytes_of : List (String Global) → List (List ℕ)
@@ -21,6 +23,7 @@ form (requests.Faces file) = Faces file.now
 form (requests.Make rows cols seed) = Make rows cols seed
 form (requests.Demo rows cols seed bound) = Demo rows cols seed bound
 form (requests.Dissolve list file) = Dissolve (polygons_in list.now) file.now
+form (requests.Pyramid list file) = Pyramid (bounds_in list.now) file.now
 
 -- ---- limits
 
@@ -42,16 +45,24 @@ pub record IsMakeable (rows cols seed : ℕ) : Type 0 where
   pub few_cols : cols ≤ 100
   pub small_seed : seed ≤ 65536
 
--- the numbers rise strictly, the first is at least `least`, and each is at most 1048575
-abbrev pub AreRisingFrom : ℕ → List ℕ → Type 0
-AreRisingFrom least [] = Unit {0}
-AreRisingFrom least (n ∷ ns) = (least ≤ n) × (n ≤ 1048575) × AreRisingFrom (n + 1) ns
+-- the numbers rise strictly, the first is at least `least`, and each is at most `most`
+abbrev pub AreRising : ℕ → ℕ → List ℕ → Type 0
+AreRising most least [] = Unit {0}
+AreRising most least (n ∷ ns) = (least ≤ n) × (n ≤ most) × AreRising most (n + 1) ns
 
--- 1 to 1,000 numbers of polygons, strictly rising
-pub record ArePolygons (polygons : List ℕ) : Type 0 where
-  pub some : 1 ≤ length polygons
-  pub few : length polygons ≤ 1000
-  pub rising : AreRisingFrom 0 polygons
+-- one number, and no more than there is room for, strictly rising, each at most `most`
+pub record AreListed (most room : ℕ) (numbers : List ℕ) : Type 0 where
+  pub some : 1 ≤ length numbers
+  pub few : length numbers ≤ room
+  pub rising : AreRising most 0 numbers
+
+-- 1 to 1,000 numbers of polygons
+abbrev pub ArePolygons : List ℕ → Type 0
+ArePolygons polygons = AreListed 1048575 1000 polygons
+
+-- 1 to 16 bounds, in whole units
+abbrev pub AreBounds : List ℕ → Type 0
+AreBounds bounds = AreListed (2 ^ 30) 16 bounds
 
 -- the numbers and names of a form are within their limits
 abbrev pub IsWithinLimits : Form → Type 0
@@ -62,6 +73,7 @@ IsWithinLimits (Faces file) = IsTrue (is_name file)
 IsWithinLimits (Make rows cols seed) = IsMakeable rows cols seed
 IsWithinLimits (Demo rows cols seed bound) = IsMakeable rows cols seed × IsBound bound
 IsWithinLimits (Dissolve polygons file) = ArePolygons polygons × IsTrue (is_name file)
+IsWithinLimits (Pyramid bounds file) = AreBounds bounds × IsTrue (is_name file)
 
 -- ---- the words of a form
 
@@ -93,6 +105,7 @@ spelling (Faces file) = codes "faces" ∷ file ∷ []
 spelling (Make rows cols seed) = codes "make" ∷ decimal rows ∷ decimal cols ∷ decimal seed ∷ []
 spelling (Demo rows cols seed bound) = codes "demo" ∷ decimal rows ∷ decimal cols ∷ decimal seed ∷ digits bound ∷ []
 spelling (Dissolve polygons file) = codes "dissolve" ∷ list_word polygons ∷ file ∷ []
+spelling (Pyramid bounds file) = codes "pyramid" ∷ list_word bounds ∷ file ∷ []
 
 -- the words spell this form, which is within its limits, or they spell none that is
 abbrev pub Spells : List (List ℕ) → Option Form → Type 0

@@ -1,7 +1,8 @@
 -- The line that tells a verdict on a certificate.
 use Rattle.std.specs.Prelude.{ℕ, List, ◌++◌, codes, decimal}
 use Rattle.cert_checker.specs.declared.verdicts.Reason.{Reason}
-use Rattle.cert_checker.specs.declared.verdicts.Reason.TheVariants.{Form, Version, Bound, Weights, Held, Chains, Kept, Path, Ends, Layers, Text}
+use Rattle.cert_checker.specs.declared.verdicts.Reason.TheVariants.{Form, Version, Bound, Weights, Held, Chains, Kept, Path, Ends, Layers}
+use Rattle.cert_checker.specs.declared.verdicts.Reason.TheVariants.{Text}
 use Rattle.cert_checker.specs.declared.verdicts.Verdict.{Verdict}
 use Rattle.cert_checker.specs.declared.verdicts.Verdict.TheVariants.{Yes, No}
 

@@ -1,5 +1,6 @@
 -- What the words of a command line ask for.
-use Rattle.std.specs.Prelude.{ℕ, ◌+◌, ◌-◌, ◌*◌, ◌^◌, ℤ, pos, Bool, true, false, not, List, [], ◌∷◌, ◌&&◌, ◌||◌, ◌==◌, nat_le, nat_lt, length, slice_index, if◌then◌else◌, Option, Some, None, codes, option_and_then}
+use Rattle.std.specs.Prelude.{ℕ, ◌+◌, ◌-◌, ◌*◌, ◌^◌, ℤ, pos, Bool, true, false, not, List, [], ◌∷◌, ◌&&◌, ◌||◌, ◌==◌, nat_le, nat_lt}
+use Rattle.std.specs.Prelude.{length, slice_index, if◌then◌else◌, Option, Some, None, codes, option_and_then}
 use Rattle.std.specs.Borrow.{Bor}
 use Rattle.std.specs.Char.{is_ascii_digit}
 use Rattle.std.specs.List.{slice_split}
@@ -24,7 +25,8 @@ between least most (Some n) = if nat_le least n && nat_le n most then Some n els
 
 -- the number from `least` to `most` that a word spells in decimal digits with no leading zero
 abbrev pub number_between : ℕ → ℕ → List ℕ → Option ℕ
-number_between least most word = if (length word == 0) || (nat_lt 1 (length word) && (slice_index word 0 == 48)) then None else between least most (read_digits 0 word)
+number_between least most word =
+    if (length word == 0) || (nat_lt 1 (length word) && (slice_index word 0 == 48)) then None else between least most (read_digits 0 word)
 
 -- the bound that a word spells
 abbrev pub bound_of : List ℕ → Option ℤ
@@ -32,9 +34,10 @@ bound_of word = option_map pos (number_between 0 (2 ^ 30) word)
 
 -- the weights that two words spell
 abbrev pub weights_of : List ℕ → List ℕ → Option Scales
-weights_of wx wy = option_and_then (λ x. option_map (λ y. record { x = pos x; y = pos y }) (number_between 1 65536 wy)) (number_between 1 65536 wx)
+weights_of wx wy =
+    option_and_then (λ x. option_map (λ y. record { x = pos x; y = pos y }) (number_between 1 65536 wy)) (number_between 1 65536 wx)
 
--- ---- lists of polygons
+-- ---- lists of numbers
 
 -- the words between the commas of a list
 abbrev pub words_between : List ℕ → List (List ℕ)
@@ -49,28 +52,45 @@ abbrev pub is_some_number : (ℕ → Bool) → Option ℕ → Bool
 is_some_number test None = false
 is_some_number test (Some n) = test n
 
--- the words spell numbers of polygons that rise from `least` on, and are no more than there is room for
-abbrev pub are_rising : ℕ → ℕ → List (List ℕ) → Bool
-are_rising least room [] = true
-are_rising least room (word ∷ words) = is_some_number (λ n. nat_lt 0 room && are_rising (n + 1) (room - 1) words) (number_between least 1048575 word)
+-- the words spell numbers that rise from `least` on and are at most `most`, and are no more than there is room for
+abbrev pub are_rising : ℕ → ℕ → ℕ → List (List ℕ) → Bool
+are_rising most least room [] = true
+are_rising most least room (word ∷ words) =
+    is_some_number (λ n. nat_lt 0 room && are_rising most (n + 1) (room - 1) words) (number_between least most word)
 
--- a list of 1 to 1,000 rising numbers of polygons
-abbrev pub is_list : List ℕ → Bool
-is_list list = are_rising 0 1000 (words_between list)
+-- a list of rising numbers, each at most `most`: one, and no more than there is room for
+abbrev pub is_list : ℕ → ℕ → List ℕ → Bool
+is_list most room list = are_rising most 0 room (words_between list)
 
 -- the number, if there is one, before others
 abbrev pub number_then : Option ℕ → List ℕ → List ℕ
 number_then None numbers = numbers
 number_then (Some n) numbers = n ∷ numbers
 
--- the numbers of polygons that words spell
-abbrev pub numbers_in : List (List ℕ) → List ℕ
-numbers_in [] = []
-numbers_in (word ∷ words) = number_then (number_between 0 1048575 word) (numbers_in words)
+-- the numbers that words spell, each at most `most`
+abbrev pub numbers_in : ℕ → List (List ℕ) → List ℕ
+numbers_in most [] = []
+numbers_in most (word ∷ words) = number_then (number_between 0 most word) (numbers_in most words)
+
+-- the numbers that a list has, each at most `most`
+abbrev pub numbers_of : ℕ → List ℕ → List ℕ
+numbers_of most list = numbers_in most (words_between list)
+
+-- a list of 1 to 1,000 rising numbers of polygons
+abbrev pub is_polygon_list : List ℕ → Bool
+is_polygon_list list = is_list 1048575 1000 list
 
 -- the numbers of polygons that a list has
 abbrev pub polygons_in : List ℕ → List ℕ
-polygons_in list = numbers_in (words_between list)
+polygons_in list = numbers_of 1048575 list
+
+-- a list of 1 to 16 rising bounds
+abbrev pub is_bound_list : List ℕ → Bool
+is_bound_list list = is_list (2 ^ 30) 16 list
+
+-- the bounds that a list has, in whole units
+abbrev pub bounds_in : List ℕ → List ℕ
+bounds_in list = numbers_of (2 ^ 30) list
 
 -- ---- names of texts
 
@@ -98,12 +118,14 @@ pub data Form : Type 0 where
   Make : (rows cols seed : ℕ) → Form
   Demo : (rows cols seed : ℕ) (bound : ℤ) → Form
   Dissolve : (polygons file : List ℕ) → Form
+  Pyramid : (bounds file : List ℕ) → Form
 
 -- what stands behind E: FILE, or FILE OUT CERT
 abbrev pub named_form : Task → Options → ℤ → List (List ℕ) → Option Form
 named_form tasks.Simplify options bound (file ∷ []) = if is_name file then Some (Simplify options bound file) else None
 named_form tasks.Layers options bound (file ∷ []) = if is_name file then Some (Layers options bound file) else None
-named_form tasks.Check options bound (file ∷ out ∷ cert ∷ []) = if are_names file out cert then Some (Check options bound file out cert) else None
+named_form tasks.Check options bound (file ∷ out ∷ cert ∷ []) =
+    if are_names file out cert then Some (Check options bound file out cert) else None
 named_form task options bound names = None
 
 -- what stands behind the options: E and names
@@ -113,7 +135,8 @@ bounded_form task options (bound ∷ names) = option_and_then (λ e. named_form 
 
 -- what stands behind `--weights`: WX WY, E and names
 abbrev pub weighed_form : Task → Bool → List (List ℕ) → Option Form
-weighed_form task hold (wx ∷ wy ∷ words) = option_and_then (λ w. bounded_form task (record { hold = hold; weights = Some w }) words) (weights_of wx wy)
+weighed_form task hold (wx ∷ wy ∷ words) =
+    option_and_then (λ w. bounded_form task (record { hold = hold; weights = Some w }) words) (weights_of wx wy)
 weighed_form task hold words = None
 
 -- what stands behind `--hold`, or behind the command: `--weights` and more, or E and names
@@ -149,8 +172,13 @@ demo_form words = None
 
 -- `dissolve LIST FILE`
 abbrev pub dissolve_form : List (List ℕ) → Option Form
-dissolve_form (list ∷ file ∷ []) = if is_list list && is_name file then Some (Dissolve (polygons_in list) file) else None
+dissolve_form (list ∷ file ∷ []) = if is_polygon_list list && is_name file then Some (Dissolve (polygons_in list) file) else None
 dissolve_form words = None
+
+-- `pyramid BOUNDS FILE`
+abbrev pub pyramid_form : List (List ℕ) → Option Form
+pyramid_form (list ∷ file ∷ []) = if is_bound_list list && is_name file then Some (Pyramid (bounds_in list) file) else None
+pyramid_form words = None
 
 -- the form of the words behind a command
 abbrev pub command_form : List ℕ → List (List ℕ) → Option Form
@@ -162,6 +190,7 @@ command_form command words =
     else if bytes_eq command (codes "make") then make_form words
     else if bytes_eq command (codes "demo") then demo_form words
     else if bytes_eq command (codes "dissolve") then dissolve_form words
+    else if bytes_eq command (codes "pyramid") then pyramid_form words
     else None
 
 -- the form of the words

@@ -38,19 +38,14 @@ fn judged(
     ensures refused { IfErr result (λ s. s ≡ Status.NoMemory) }
 {
     let Loaded { partly, arcs_at } = loaded;
-    let mut state = match JudgeState::new(alloc, partly) {
-        Ok(state) => state,
-        Err(_) => return Err(Status::NoMemory),
-    };
+    let mut state = JudgeState::new(alloc, partly)?;
     let version = version_of(options);
     let verdict = judge(&mut state, certificate, version, bound, weights_of(options));
     if let Verdict::No(_) = verdict {
         return Ok(verdict);
     }
-    match put_back(alloc, &texts.file, arcs_at, &state.finish()) {
-        Ok(expected) => Ok(compared(&expected, &texts.out)),
-        Err(_) => Err(Status::NoMemory),
-    }
+    let expected = put_back(alloc, &texts.file, arcs_at, &state.finish())?;
+    Ok(compared(&expected, &texts.out))
 }
 
 // The verdict on what was written, where the certificate holds: it is to be the expected text.

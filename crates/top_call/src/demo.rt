@@ -55,10 +55,7 @@ fn lines_of(alloc: Global, map: &ArcMap, chains: u32, before: u32) -> Result<Vec
         Part::Number(position_count(map)),
         Part::Words("\n"),
     ];
-    match text_of(alloc, &parts) {
-        Ok(text) => Ok(text),
-        Err(error) => Err(error),
-    }
+    text_of(alloc, &parts)
 }
 
 // The options of the forms that have none.
@@ -83,8 +80,6 @@ pub fn demo(alloc: Global, rows: u32, cols: u32, seed: u32, bound: Bound) -> Res
     let loaded = load(alloc, &options, &text)?;
     let before = position_count(loaded.partly.map());
     let outcome = run_chains(alloc, loaded.partly, bound, weights_of(&options))?;
-    match lines_of(alloc, outcome.map.map(), outcome.records.count(), before) {
-        Ok(bytes) => Ok(bytes),
-        Err(_) => Err(Status::NoMemory),
-    }
+    let map = outcome.map.map();
+    Ok(lines_of(alloc, map, outcome.records.count(), before)?)
 }

@@ -2,7 +2,8 @@
 ghost use Rattle.std.specs.Prelude.{◌≡◌, ◌≤◌, ◌<◌, ◌^◌, ◌⊎◌, [], All, IfOk, IfErr, get_or, length};
 ghost use Rattle.topo_reader.specs.Ends.{HasEvenEnds};
 ghost use Rattle.top_call.specs.Words.{polygons_in};
-ghost use Rattle.top_call.specs.Answers.{IsBorderText, IsDissolveAnswer, done, first_missing, refused};
+ghost use Rattle.top_call.specs.Answers.{IsBorderText, IsDissolveAnswer, done, first_missing};
+ghost use Rattle.top_call.specs.Answers.{refused};
 ghost use Rattle.top_call.specs.Endings.{IsMapStatus};
 
 use crate::demo::no_options;
@@ -46,21 +47,11 @@ pub fn dissolved(alloc: Global, list: &str, text: &[u8]) -> Result<Vec<u8>, Stat
         ⊎ IsDissolveAnswer (polygons_in list.now) text.now (refused s)) }
     ensures status { IfErr result IsMapStatus }
 {
-    let options = no_options();
-    let loaded = match load(alloc, &options, text) {
-        Ok(loaded) => loaded,
-        Err(status) => return Err(status),
-    };
-    let polygons = match polygons_in(alloc, list) {
-        Ok(polygons) => polygons,
-        Err(_) => return Err(Status::NoMemory),
-    };
+    let loaded = load(alloc, &no_options(), text)?;
+    let polygons = polygons_in(alloc, list)?;
     let map = loaded.partly.map();
     if let Some(polygon) = first_missing(map.polygon_count(), &polygons) {
         return Err(Status::NoPolygon(polygon));
     }
-    match border_text(alloc, map, &polygons) {
-        Ok(bytes) => Ok(bytes),
-        Err(_) => Err(Status::NoMemory),
-    }
+    Ok(border_text(alloc, map, &polygons)?)
 }

@@ -1,10 +1,12 @@
 //! The form that tells for each feature point of a map the polygons in which it lies.
-ghost use Rattle.std.specs.Prelude.{◌≡◌, ◌≢◌, ◌≤◌, ◌<◌, ◌^◌, ◌++◌, ◌⊎◌, [], IsTrue, OnOk, OnErr, length, vec_len, vec_capacity};
+ghost use Rattle.std.specs.Prelude.{◌≡◌, ◌≢◌, ◌≤◌, ◌<◌, ◌^◌, ◌++◌, ◌⊎◌, [], IsTrue, OnOk, OnErr};
+ghost use Rattle.std.specs.Prelude.{length, vec_len, vec_capacity};
 ghost use Rattle.outside_io.specs.Causes.{HasCause, Rose};
 ghost use Rattle.outside_io.specs.Texts.{AppendsPrefix};
 ghost use Rattle.face_parity.specs.Scratch.{IsScratchOf};
 ghost use Rattle.top_call.specs.Answers.{IsFaced, IsMapAnswer, faces_text, plain};
-ghost use Rattle.top_call.specs.Endings.{HasFault, IsPartWritten, IsSilent, IsWorkStatus, Replies, Settles};
+ghost use Rattle.top_call.specs.Endings.{HasFault, IsPartWritten, IsSilent, IsWorkStatus, Replies};
+ghost use Rattle.top_call.specs.Endings.{Settles};
 
 use crate::demo::no_options;
 use crate::loading::load;
@@ -90,13 +92,11 @@ fn reply_faces<O: Sink>(alloc: Global, map: &ArcMap, out: &mut O) -> Status
     ensures silent { result ≡ Status.NoMemory → out.new ≡ out.old }
     ensures fault { HasFault Status.WriteFault (O.faults out.old) (O.faults out.new) result }
 {
-    let mut scratch = match FaceScratch::new(alloc, map) {
-        Ok(scratch) => scratch,
-        Err(_) => return Status::NoMemory,
+    let Ok(mut scratch) = FaceScratch::new(alloc, map) else {
+        return Status::NoMemory;
     };
-    let mut lines = match Vec::with_capacity(alloc, GATHERED) {
-        Ok(lines) => lines,
-        Err(_) => return Status::NoMemory,
+    let Ok(mut lines) = Vec::with_capacity(alloc, GATHERED) else {
+        return Status::NoMemory;
     };
     match write_lines(map, &mut scratch, &mut lines, out) {
         Ok(()) => Status::Done,

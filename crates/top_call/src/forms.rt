@@ -29,4 +29,7 @@ pub enum Request<'a> {
     /// Write the border of the polygons whose numbers a word lists, of the map of a text: the word,
     /// and the name of the text.
     Dissolve(&'a str, &'a str),
+    /// Write the rank of each position by the levels of the bounds that a word lists, of the map of
+    /// a text: the word, and the name of the text.
+    Pyramid(&'a str, &'a str),
 }

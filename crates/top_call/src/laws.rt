@@ -1,6 +1,9 @@
 //! Laws of the command over the definitions alone, each as the contract of a function that does
 //! nothing.
-ghost use Rattle.top_call.specs.Laws.{AnswerIsOne, CertifiedIsShort, CheckAnswersYes, FacesAnswersAlike, OutcomeKeepsLines, RecordsAreJudgedYes, SimplifiedChecksYes, SimplifiedIsShort, SimplifiedKeepsLines, SimplifiedReadsBack};
+ghost use Rattle.top_call.specs.Laws.{AnswerIsOne, CertifiedIsShort, CheckAnswersYes};
+ghost use Rattle.top_call.specs.Laws.{FacesAnswersAlike, OutcomeKeepsLines, RecordsAreJudgedYes};
+ghost use Rattle.top_call.specs.Laws.{SimplifiedChecksYes, SimplifiedIsShort, SimplifiedKeepsLines};
+ghost use Rattle.top_call.specs.Laws.{SimplifiedReadsBack};
 
 /// The records of a run pass each test of the judge, and the judged map is the outcome of the run.
 pub fn records_are_judged_yes()

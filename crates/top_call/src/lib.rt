@@ -2,6 +2,7 @@
 //! texts and sinks that the caller brings.
 #![tactic(auto)]
 
+mod causes;
 mod checking;
 mod demo;
 mod dissolving;
@@ -13,6 +14,7 @@ mod lists;
 mod loading;
 mod message;
 mod parts;
+mod ranking;
 mod running;
 mod status;
 mod texts;

@@ -1,20 +1,23 @@
 //! The map of a text, arranged or with its held arcs.
-ghost use Rattle.std.specs.Prelude.{◌≡◌, ◌≤◌, ◌^◌, ◌⊎◌, pos, None, All, IfOk, IfErr, MatchOption, length};
+ghost use Rattle.std.specs.Prelude.{◌≡◌, ◌≤◌, ◌^◌, ◌⊎◌, pos, None, All, IfOk, IfErr, MatchOption};
+ghost use Rattle.std.specs.Prelude.{length};
 ghost use Rattle.grid_exact.specs.Geometry.{Place};
 ghost use Rattle.grid_exact.specs.Weights.{StaysOnGrid, IsFirstOff};
 ghost use Rattle.topo_reader.specs.Ends.{HasEvenEnds};
 ghost use Rattle.topo_reader.specs.TopologyIs.{topology_read, LiesIn};
-ghost use Rattle.top_call.specs.Maps.{HasTopology, IsLoaded, IsRefused, IsUnarranged, AreHeldBeside, IsTextRefusal, IsFirstOffIn, scales_of, ones, scan_status, fault_status, check_status, topology_in};
+ghost use Rattle.top_call.specs.Maps.{HasTopology, IsLoaded, IsRefused, IsUnarranged};
+ghost use Rattle.top_call.specs.Maps.{AreHeldBeside, IsTextRefusal, IsFirstOffIn, scales_of, ones};
+ghost use Rattle.top_call.specs.Maps.{topology_in};
 ghost use Rattle.top_call.specs.Endings.{IsMapStatus};
 
 use crate::forms::Options;
-use crate::status::{Limit, Meeting, Status};
+use crate::status::Status;
 use arc_map::ArcMap;
-use arrangement_check::{CheckError, Partly, check, hold};
+use arrangement_check::{Partly, check, hold};
 use grid_exact::{Point, Weights};
-use json_scan::{ScanError, scan};
+use json_scan::scan;
 use std::alloc::Global;
-use topo_reader::{ReadFault, Span, Topology, read};
+use topo_reader::{Span, Topology, read};
 
 /// The map of a text with its held arcs, beside which it is arranged, and where the value of `arcs`
 /// stands.
@@ -22,41 +25,6 @@ use topo_reader::{ReadFault, Span, Topology, read};
 pub struct Loaded {
     pub partly: Partly,
     pub arcs_at: Span,
-}
-
-// The status of a text that is no JSON text, or that is too deep.
-fn scan_status(error: ScanError) -> Status
-    ensures { result ≡ scan_status error }
-{
-    match error {
-        ScanError::NotUtf8 { at } => Status::NotUtf8(at),
-        ScanError::NotJson { at } => Status::NotJson(at),
-        ScanError::TooDeep { at } => Status::TooLarge(Limit::Depth(at)),
-        ScanError::NoMemory => Status::NoMemory,
-    }
-}
-
-// The status of a text that is no topology.
-fn fault_status(fault: ReadFault) -> Status
-    ensures { result ≡ fault_status fault }
-{
-    match fault {
-        ReadFault::Shape { kind, at } => Status::NotTopology(kind, at),
-        ReadFault::Off { kind, at } => Status::OffProfile(kind, at),
-        ReadFault::TooMany { what, at } => Status::TooLarge(Limit::Many(what, at)),
-        ReadFault::NoMemory => Status::NoMemory,
-    }
-}
-
-// The status of a map that is not arranged.
-fn check_status(error: CheckError) -> Status
-    ensures { result ≡ check_status error }
-{
-    match error {
-        CheckError::Edges(e, f) => Status::NotArranged(Meeting::Edges(e, f)),
-        CheckError::PointOnArc(point, e) => Status::NotArranged(Meeting::PointOnArc(point, e)),
-        CheckError::NoMemory => Status::NoMemory,
-    }
 }
 
 // The topology that a text is.
@@ -68,14 +36,8 @@ fn topology_in(alloc: Global, text: &[u8]) -> Result<Topology, Status>
         (λ topology. All (HasEvenEnds topology.map.arcs) topology.map.polygons) }
     ensures refused { IfErr result (λ s. (s ≡ Status.NoMemory) ⊎ IsTextRefusal text.now s) }
 {
-    let scanned = match scan(alloc, text) {
-        Ok(scanned) => scanned,
-        Err(error) => return Err(scan_status(error)),
-    };
-    match read(alloc, &scanned) {
-        Ok(topology) => Ok(topology),
-        Err(fault) => Err(fault_status(fault)),
-    }
+    let scanned = scan(alloc, text)?;
+    Ok(read(alloc, &scanned)?)
 }
 
 /// The weights of the axes, 1 and 1 where the words name none.
@@ -128,15 +90,10 @@ fn arranged(alloc: Global, hold_arcs: bool, map: ArcMap) -> Result<Partly, Statu
     ensures refused { IfErr result (λ s. (s ≡ Status.NoMemory) ⊎ IsUnarranged hold_arcs map s) }
 {
     if hold_arcs {
-        return match hold(alloc, map) {
-            Ok(partly) => Ok(partly),
-            Err(_) => Err(Status::NoMemory),
-        };
+        return Ok(hold(alloc, map)?);
     }
-    match check(alloc, map) {
-        Ok(arranged) => Ok(Partly::whole(alloc, arranged)),
-        Err(error) => Err(check_status(error)),
-    }
+    let arranged = check(alloc, map)?;
+    Ok(Partly::whole(alloc, arranged))
 }
 
 /// The map of a text, whose positions the weights leave on the grid, arranged or with its held

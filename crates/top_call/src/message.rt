@@ -3,17 +3,16 @@ ghost use Rattle.std.specs.Prelude.{◌≡◌, ◌++◌, IsTrue, OnOk, OnErr, co
 ghost use Rattle.outside_io.specs.Causes.{HasCause};
 ghost use Rattle.outside_io.specs.Texts.{AppendsPrefix};
 ghost use Rattle.top_call.specs.Parts.{spelled};
-ghost use Rattle.top_call.specs.Messages.{message_of, usage_line, shape_words, off_words, what_words, role_words, limit_line, edges_line, point_line, meeting_line, off_weights_line, no_polygon_line};
+ghost use Rattle.top_call.specs.Messages.{message_of, usage_line, shape_words, off_words};
+ghost use Rattle.top_call.specs.Messages.{what_words, role_words, limit_line, edges_line};
+ghost use Rattle.top_call.specs.Messages.{point_line, meeting_line, off_weights_line};
+ghost use Rattle.top_call.specs.Messages.{no_polygon_line};
 
-use crate::parts::{Part, write_parts};
+use crate::parts::{END, Line, NONE, Part, line, numbered, plain, write_parts};
 use crate::status::{Limit, Meeting, Role, Status};
 use arc_map::EdgeRef;
 use outside_io::{Failed, Sink};
 use topo_reader::{OffKind, ShapeKind, What};
-
-const NONE: Part = Part::Words("");
-
-const END: Part = Part::Words("\n");
 
 fn shape_words(kind: ShapeKind) -> &'static str
     ensures { result.now ≡ shape_words kind }
@@ -69,37 +68,28 @@ fn role_words(role: Role) -> &'static str
 fn usage() -> &'static str
     ensures { result.now ≡ usage_line }
 {
-    "usage: simplify [--hold] [--weights WX WY] E FILE, layers [--hold] [--weights WX WY] E FILE, check [--hold] [--weights WX WY] E FILE OUT CERT, faces FILE, make R C SEED, demo R C SEED E, dissolve LIST FILE\n"
-}
-
-// A line of at most five parts.
-fn short_line(parts: [Part; 5]) -> [Part; 9]
-    ensures { spelled result ≡ spelled parts }
-{
-    let [a, b, c, d, e] = parts;
-    [a, b, c, d, e, NONE, NONE, NONE, NONE]
-}
-
-// A line of words alone.
-fn plain(words: &'static str) -> [Part; 9]
-    ensures { spelled result ≡ words.entry.now }
-{
-    short_line([Part::Words(words), NONE, NONE, NONE, NONE])
+    concat!(
+        "usage: simplify [--hold] [--weights WX WY] E FILE, ",
+        "layers [--hold] [--weights WX WY] E FILE, ",
+        "check [--hold] [--weights WX WY] E FILE OUT CERT, ",
+        "faces FILE, make R C SEED, demo R C SEED E, dissolve LIST FILE, ",
+        "pyramid BOUNDS FILE\n",
+    )
 }
 
 // A line of words, and what they speak of.
-fn about(words: &'static str, what: &'static str) -> [Part; 9]
+fn about(words: &'static str, what: &'static str) -> Line
     ensures { spelled result ≡ words.entry.now ++ what.entry.now ++ codes "\n" }
 {
-    short_line([Part::Words(words), Part::Words(what), END, NONE, NONE])
+    line([Part::Words(words), Part::Words(what), END, NONE, NONE])
 }
 
 // A line of words, what they speak of, and a place.
-fn placed(words: &'static str, what: &'static str, at: u32) -> [Part; 9]
+fn placed(words: &'static str, what: &'static str, at: u32) -> Line
     ensures { spelled result ≡ words.entry.now ++ what.entry.now ++ codes " at "
         ++ decimal at ++ codes "\n" }
 {
-    short_line([
+    line([
         Part::Words(words),
         Part::Words(what),
         Part::Words(" at "),
@@ -109,7 +99,7 @@ fn placed(words: &'static str, what: &'static str, at: u32) -> [Part; 9]
 }
 
 // The line that tells of a limit.
-fn limit_line(limit: Limit) -> [Part; 9]
+fn limit_line(limit: Limit) -> Line
     ensures { spelled result ≡ limit_line limit }
 {
     match limit {
@@ -120,7 +110,7 @@ fn limit_line(limit: Limit) -> [Part; 9]
 }
 
 // The line that tells of two edges that clash.
-fn edges_line(e: EdgeRef, f: EdgeRef) -> [Part; 9]
+fn edges_line(e: EdgeRef, f: EdgeRef) -> Line
     ensures { spelled result ≡ edges_line e f }
 {
     [
@@ -137,7 +127,7 @@ fn edges_line(e: EdgeRef, f: EdgeRef) -> [Part; 9]
 }
 
 // The line that tells of a feature point on an edge.
-fn point_line(point: u32, e: EdgeRef) -> [Part; 9]
+fn point_line(point: u32, e: EdgeRef) -> Line
     ensures { spelled result ≡ point_line point e }
 {
     [
@@ -154,7 +144,7 @@ fn point_line(point: u32, e: EdgeRef) -> [Part; 9]
 }
 
 // The line that tells of a meeting.
-fn meeting_line(meeting: Meeting) -> [Part; 9]
+fn meeting_line(meeting: Meeting) -> Line
     ensures { spelled result ≡ meeting_line meeting }
 {
     match meeting {
@@ -164,10 +154,10 @@ fn meeting_line(meeting: Meeting) -> [Part; 9]
 }
 
 // The line that tells of a position that the weights take off the grid.
-fn off_weights_line(arc: u32, position: u32) -> [Part; 9]
+fn off_weights_line(arc: u32, position: u32) -> Line
     ensures { spelled result ≡ off_weights_line arc position }
 {
-    short_line([
+    line([
         Part::Words("weights take arc "),
         Part::Number(arc),
         Part::Words(" position "),
@@ -177,20 +167,14 @@ fn off_weights_line(arc: u32, position: u32) -> [Part; 9]
 }
 
 // The line that tells of a polygon that the map does not have.
-fn no_polygon_line(polygon: u32) -> [Part; 9]
+fn no_polygon_line(polygon: u32) -> Line
     ensures { spelled result ≡ no_polygon_line polygon }
 {
-    short_line([
-        Part::Words("no polygon "),
-        Part::Number(polygon),
-        END,
-        NONE,
-        NONE,
-    ])
+    numbered("no polygon ", polygon)
 }
 
 // The line that tells a status, empty for `Done` and `No`.
-fn line_of(status: &Status) -> [Part; 9]
+fn line_of(status: &Status) -> Line
     ensures { spelled result ≡ message_of status.now }
 {
     match status {

@@ -1,5 +1,5 @@
 //! Lines in parts: words, and numbers in decimal.
-ghost use Rattle.std.specs.Prelude.{◌≡◌, ◌++◌, IsTrue, OnOk, OnErr, IfOk};
+ghost use Rattle.std.specs.Prelude.{◌≡◌, ◌++◌, IsTrue, OnOk, OnErr, IfOk, codes, decimal};
 ghost use Rattle.outside_io.specs.Causes.{HasCause};
 ghost use Rattle.outside_io.specs.Texts.{AppendsPrefix};
 ghost use Rattle.top_call.specs.Parts.{part_text, spelled};
@@ -13,6 +13,37 @@ use std::alloc::{AllocError, Global};
 pub enum Part {
     Words(&'static str),
     Number(u32),
+}
+
+/// The parts of a line, with empty words behind the last.
+pub type Line = [Part; 9];
+
+/// Words that add nothing.
+pub const NONE: Part = Part::Words("");
+
+/// The end of a line.
+pub const END: Part = Part::Words("\n");
+
+/// A line of at most five parts.
+pub fn line(parts: [Part; 5]) -> Line
+    ensures { spelled result ≡ spelled parts }
+{
+    let [a, b, c, d, e] = parts;
+    [a, b, c, d, e, NONE, NONE, NONE, NONE]
+}
+
+/// A line of words alone, with its line feed in them.
+pub fn plain(words: &'static str) -> Line
+    ensures { spelled result ≡ words.entry.now }
+{
+    line([Part::Words(words), NONE, NONE, NONE, NONE])
+}
+
+/// A line of words that end with a number.
+pub fn numbered(words: &'static str, number: u32) -> Line
+    ensures { spelled result ≡ words.entry.now ++ decimal number ++ codes "\n" }
+{
+    line([Part::Words(words), Part::Number(number), END, NONE, NONE])
 }
 
 fn write_part<S: Sink>(sink: &mut S, part: &Part) -> Result<(), Failed>

@@ -4,12 +4,16 @@ ghost use Rattle.outside_io.specs.Causes.{Rose};
 ghost use Rattle.cert_checker.specs.declared.verdicts.Verdict.{Verdict};
 ghost use Rattle.top_call.specs.Words.{form_of};
 ghost use Rattle.top_call.specs.Requests.{bytes_of, form, IsWithinLimits};
-ghost use Rattle.top_call.specs.Reading.{limit_of, named, texts_read, AreHeld, AreShort, IsFirstPast};
+ghost use Rattle.top_call.specs.Reading.{limit_of, named, texts_read, AreHeld, AreShort};
+ghost use Rattle.top_call.specs.Reading.{IsFirstPast};
 ghost use Rattle.top_call.specs.Messages.{message_of};
 ghost use Rattle.top_call.specs.Verdicts.{verdict_line};
-ghost use Rattle.top_call.specs.Answers.{Answer, verdict_status, IsWorkAnswer, IsFormAnswer, IsAnswer};
-ghost use Rattle.top_call.specs.Endings.{HasFault, IsMapStatus, IsWritten, IsWorkStatus, IsSilent, ReadsTexts, names_of, Replies, Settles, Notes};
-ghost use Rattle.top_call.specs.Headline.{Headline, Completes, Judges, ReachesYes, KeepsLines, Borders, IsMaking, IsMakingStatus, Makes};
+ghost use Rattle.top_call.specs.Answers.{Answer, verdict_status, IsWorkAnswer, IsFormAnswer};
+ghost use Rattle.top_call.specs.Answers.{IsAnswer};
+ghost use Rattle.top_call.specs.Endings.{HasFault, IsMapStatus, IsWritten, IsWorkStatus, IsSilent};
+ghost use Rattle.top_call.specs.Endings.{ReadsTexts, names_of, Replies, Settles, Notes};
+ghost use Rattle.top_call.specs.Headline.{Headline, Completes, Judges, ReachesYes, KeepsLines};
+ghost use Rattle.top_call.specs.Headline.{Borders, Levels, IsMaking, IsMakingStatus, Makes};
 
 use crate::checking::verdict_on;
 use crate::demo::{coverage, demo};
@@ -17,6 +21,7 @@ use crate::dissolving::dissolved;
 use crate::faces::write_faces;
 use crate::forms::Request;
 use crate::message::tell;
+use crate::ranking::ranked;
 use crate::status::{Limit, Role, Status};
 use crate::texts::{Texts, read_texts};
 use crate::thinning::{certified, simplified};
@@ -112,6 +117,7 @@ fn work<O: Sink>(alloc: Global, request: &Request<'_>, texts: &Texts, out: &mut 
             write_bytes(demo(alloc, *rows, *cols, *seed, *bound), out)
         }
         Request::Dissolve(list, _) => write_bytes(dissolved(alloc, list, &texts.file), out),
+        Request::Pyramid(list, _) => write_bytes(ranked(alloc, list, &texts.file), out),
     }
 }
 
@@ -192,7 +198,8 @@ fn tell_end<N: Sink>(note: &mut N, status: &Status)
 /// The named texts are read in the order FILE, OUT, CERT, each within its limit, before any of them
 /// is judged. Then the first that applies is the answer: FILE is no JSON text, or no topology; the
 /// weights take a position off the grid; the map is not arranged and no arcs are to be held; it has
-/// not each polygon of a list; else the work is done. `NoMemory` may stand in place of each of them until the first byte is written.
+/// not each polygon of a list; else the work is done. `NoMemory` may stand in place of each of them
+/// until the first byte is written.
 ///
 /// What `simplify` writes is faithful to the text: each byte stands but those of the value of
 /// `arcs`. Each arc there has some of its positions, both ends of each chain among them, and each
@@ -279,6 +286,14 @@ pub fn run<I: Inputs, O: Sink, N: Sink>(
     // often, modulo 2, as these polygons in sum.
     ensures borders { IsTrue I.tells → IsTrue O.tells
         → Borders (bytes_of words.now) (I.texts inputs.old) (O.written out.old) (O.written out.new)
+        result }
+
+    // What is written of levels are the ranks of the positions: for each number k from 0, those of
+    // rank k or more are what level k keeps, which is arranged, has the ends of the arcs and leaves
+    // each feature point in its polygons; each vertex that it drops of the level before it is
+    // within its bound of the edge that skips the vertex.
+    ensures levels { IsTrue I.tells → IsTrue O.tells
+        → Levels (bytes_of words.now) (I.texts inputs.old) (O.written out.old) (O.written out.new)
         result }
 
     // A coverage is made and thinned, or a write failed, or memory was wanting.

@@ -2,7 +2,7 @@
 ghost use Rattle.std.specs.Prelude.{◌≡◌};
 ghost use Rattle.top_call.specs.Codes.{code_of};
 
-use arc_map::{EdgeRef, NoMemory};
+use arc_map::EdgeRef;
 use cert_checker::Reason;
 use topo_reader::{OffKind, ShapeKind, What};
 
@@ -70,16 +70,6 @@ pub enum Status {
     OffWeights(u32, u32),
     /// The map has no polygon with this number, the first such of the list.
     NoPolygon(u32),
-}
-
-impl From<NoMemory> for Status {
-    ghost use Rattle.top_call.specs.declared.status.Status.TheVariants.{NoMemory};
-
-    ghost from_gives = { λ _ s. s ≡ NoMemory };
-
-    fn from(_: NoMemory) -> Self {
-        Status::NoMemory
-    }
 }
 
 impl Status {

@@ -1,9 +1,11 @@
 //! The texts that a request names, each read whole within its limit.
-ghost use Rattle.std.specs.Prelude.{◌≡◌, ◌≢◌, ◌≤◌, ◌<◌, ◌⊎◌, [], ◌∷◌, IsTrue, IsOk, IsSome, IsErrOf, IfOk, IfErr, OnOk, length};
+ghost use Rattle.std.specs.Prelude.{◌≡◌, ◌≢◌, ◌≤◌, ◌<◌, ◌⊎◌, [], ◌∷◌, IsTrue, IsOk, IsSome};
+ghost use Rattle.std.specs.Prelude.{IsErrOf, IfOk, IfErr, OnOk, length};
 ghost use Rattle.outside_io.specs.Causes.{Rose};
 ghost use Rattle.outside_io.specs.Texts.{text_of};
 ghost use Rattle.top_call.specs.Requests.{form};
-ghost use Rattle.top_call.specs.Reading.{limit_of, named, texts_read, AreHeld, AreRead, AreShort, IsPast, IsFirstPast, IsReadingStatus, ReadsNames};
+ghost use Rattle.top_call.specs.Reading.{limit_of, named, texts_read, AreHeld, AreRead, AreShort};
+ghost use Rattle.top_call.specs.Reading.{IsPast, IsFirstPast, IsReadingStatus, ReadsNames};
 
 use crate::forms::Request;
 use crate::status::{Limit, Role, Status};
@@ -131,6 +133,7 @@ pub fn read_texts<I: Inputs>(
         Request::Make(_, _, _) => Ok(no_texts(alloc)),
         Request::Demo(_, _, _, _) => Ok(no_texts(alloc)),
         Request::Dissolve(_, file) => read_one(alloc, file, inputs),
+        Request::Pyramid(_, file) => read_one(alloc, file, inputs),
     }
 }
 

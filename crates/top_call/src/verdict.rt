@@ -3,53 +3,25 @@ ghost use Rattle.std.specs.Prelude.{◌≡◌, ◌++◌, IfOk, codes, decimal};
 ghost use Rattle.top_call.specs.Parts.{spelled};
 ghost use Rattle.top_call.specs.Verdicts.{reason_line, verdict_line};
 
-use crate::parts::{Part, text_of};
+use crate::parts::{END, Line, NONE, Part, line, numbered, plain, text_of};
 use cert_checker::{Reason, Verdict};
 use std::alloc::{AllocError, Global};
 
-const NONE: Part = Part::Words("");
-
-const END: Part = Part::Words("\n");
-
-// A line of words alone.
-fn plain(words: &'static str) -> [Part; 7]
-    ensures { spelled result ≡ words.entry.now }
-{
-    [Part::Words(words), NONE, NONE, NONE, NONE, NONE, NONE]
-}
-
-// A line of words that end with a number.
-fn numbered(words: &'static str, number: u32) -> [Part; 7]
-    ensures { spelled result ≡ words.entry.now ++ decimal number ++ codes "\n" }
-{
-    [
-        Part::Words(words),
-        Part::Number(number),
-        END,
-        NONE,
-        NONE,
-        NONE,
-        NONE,
-    ]
-}
-
 // A line that speaks of an entry of the certificate.
-fn entry_line(entry: u32, words: &'static str) -> [Part; 7]
+fn entry_line(entry: u32, words: &'static str) -> Line
     ensures { spelled result ≡ codes "no: chain " ++ decimal entry ++ words.entry.now }
 {
-    [
+    line([
         Part::Words("no: chain "),
         Part::Number(entry),
         Part::Words(words),
         NONE,
         NONE,
-        NONE,
-        NONE,
-    ]
+    ])
 }
 
 // A line that speaks of a step in an entry of the certificate.
-fn step_line(entry: u32, words: &'static str, from: u32, to: u32) -> [Part; 7]
+fn step_line(entry: u32, words: &'static str, from: u32, to: u32) -> Line
     ensures { spelled result ≡ codes "no: chain " ++ decimal entry ++ words.entry.now
         ++ decimal «from» ++ codes " " ++ decimal to ++ codes "\n" }
 {
@@ -61,11 +33,13 @@ fn step_line(entry: u32, words: &'static str, from: u32, to: u32) -> [Part; 7]
         Part::Words(" "),
         Part::Number(to),
         END,
+        NONE,
+        NONE,
     ]
 }
 
 // The line that tells a reason.
-fn reason_line(reason: Reason) -> [Part; 7]
+fn reason_line(reason: Reason) -> Line
     ensures { spelled result ≡ reason_line reason }
 {
     match reason {
@@ -84,7 +58,7 @@ fn reason_line(reason: Reason) -> [Part; 7]
 }
 
 // The line that tells a verdict, in parts.
-fn line_of(verdict: Verdict) -> [Part; 7]
+fn line_of(verdict: Verdict) -> Line
     ensures { spelled result ≡ verdict_line verdict }
 {
     match verdict {

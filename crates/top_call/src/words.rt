@@ -1,11 +1,14 @@
 //! What the words of a command line ask for.
 ghost use Rattle.std.specs.Prelude.{◌≡◌, ◌≤◌, [], ◌∷◌, IfSome};
 ghost use Rattle.std.specs.Option.{option_map};
-ghost use Rattle.top_call.specs.Words.{number_between, bound_of, weights_of, is_name, is_standard, are_names, named_form, bounded_form, weighed_form, held_form, task_form, faces_form, make_form, demo_form, dissolve_form, command_form, form_of};
+ghost use Rattle.top_call.specs.Words.{number_between, bound_of, weights_of, is_name, is_standard};
+ghost use Rattle.top_call.specs.Words.{are_names, named_form, bounded_form, weighed_form};
+ghost use Rattle.top_call.specs.Words.{held_form, task_form, faces_form, make_form, demo_form};
+ghost use Rattle.top_call.specs.Words.{dissolve_form, pyramid_form, command_form, form_of};
 ghost use Rattle.top_call.specs.Requests.{bytes_of, form, Spells};
 
 use crate::forms::{Options, Request};
-use crate::lists::is_list;
+use crate::lists::{is_bound_list, is_polygon_list};
 use grid_exact::{Bound, Weights};
 
 // The most rows and the most columns of cells.
@@ -13,7 +16,8 @@ const MOST_CELLS: u32 = 100;
 
 const MOST_SEED: u32 = 65536;
 
-const MOST_BOUND: u32 = 1 << 30;
+/// The greatest bound, in grid units.
+pub const MOST_BOUND: u32 = 1 << 30;
 
 const MOST_WEIGHT: u32 = 65536;
 
@@ -250,8 +254,32 @@ fn border_request<'a>(list: &'a str, file: &'a str) -> Option<Request<'a>>
     if file.is_empty() {
         return None;
     }
-    if is_list(list) {
+    if is_polygon_list(list) {
         Some(Request::Dissolve(list, file))
+    } else {
+        None
+    }
+}
+
+// The request of `pyramid BOUNDS FILE`.
+fn pyramid_request(words: &[String]) -> Option<Request<'_>>
+    ensures { option_map form result ≡ pyramid_form (bytes_of words.now) }
+{
+    match words {
+        [bounds, file] => levels_request(bounds.as_str(), file.as_str()),
+        _ => None,
+    }
+}
+
+// What bounds and a name behind `pyramid` ask for.
+fn levels_request<'a>(bounds: &'a str, file: &'a str) -> Option<Request<'a>>
+    ensures { option_map form result ≡ pyramid_form (bounds.entry.now ∷ file.entry.now ∷ []) }
+{
+    if file.is_empty() {
+        return None;
+    }
+    if is_bound_list(bounds) {
+        Some(Request::Pyramid(bounds, file))
     } else {
         None
     }
@@ -269,6 +297,7 @@ fn commanded<'a>(command: &str, words: &'a [String]) -> Option<Request<'a>>
         "make" => make_request(words),
         "demo" => demo_request(words),
         "dissolve" => dissolve_request(words),
+        "pyramid" => pyramid_request(words),
         _ => None,
     }
 }

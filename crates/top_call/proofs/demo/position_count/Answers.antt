@@ -4,4 +4,5 @@ use Rattle.topo_writer.proofs.Left.{lengths-at}
 use Rattle.top_call.proofs.demo.position_count.Goals as goal
 
 pub loop-arc-preserved : goal.loop-arc-preserved
-loop-arc-preserved c = omega (arith, c.loop-arc.invariant, lengths-at c.args.map.now.arcs c.loop-arc.arc c.arc.result.now c.arc.ensures.value)
+loop-arc-preserved c =
+    omega (arith, c.loop-arc.invariant, lengths-at c.args.map.now.arcs c.loop-arc.arc c.arc.result.now c.arc.ensures.value)

@@ -7,4 +7,6 @@ pub border-requires-clause-known : goal.border-requires-clause-known
 border-requires-clause-known c = none_missing (length c.args.map.now.polygons) c.args.polygons.now c.requires.known
 
 pub border-requires-clause-even : goal.border-requires-clause-even
-border-requires-clause-even c = even_chosen c.args.map.now c.args.polygons.now c.requires.even (none_missing (length c.args.map.now.polygons) c.args.polygons.now c.requires.known)
+border-requires-clause-even c =
+    even_chosen c.args.map.now c.args.polygons.now c.requires.even
+    (none_missing (length c.args.map.now.polygons) c.args.polygons.now c.requires.known)

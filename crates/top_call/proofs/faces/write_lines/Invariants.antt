@@ -9,7 +9,8 @@ use Rattle.top_call.proofs.faces.write_lines.Given as goal
 
 abbrev pub invariant-loop-point : goal.invariant-loop-point
 invariant-loop-point g l = record {
-  told : IsTrue g.O.Sink.tells → IsPartWritten (g.O.Sink.written l.fn.out) (g.O.Sink.written l.out) (faces_text l.map) (l.lines.items ++ lines_from l.map l.point);
+  told : IsTrue g.O.Sink.tells → IsPartWritten (g.O.Sink.written l.fn.out) (g.O.Sink.written l.out) (faces_text l.map)
+      (l.lines.items ++ lines_from l.map l.point);
   faults : g.O.Sink.faults l.out ≡ g.O.Sink.faults l.fn.out;
   scratch : IsScratchOf l.map l.scratch;
   room : GATHERED ≤ vec_capacity l.lines;

@@ -6,6 +6,7 @@ use Rattle.top_call.proofs.parts.write_parts.Given as goal
 
 abbrev pub invariant-loop-part : goal.invariant-loop-part
 invariant-loop-part g l = record {
-  told : IsTrue g.S.Sink.tells → IsPartWritten (g.S.Sink.written l.fn.sink) (g.S.Sink.written l.sink) (spelled l.parts) (spelled (drop l.part-index l.parts));
+  told : IsTrue g.S.Sink.tells → IsPartWritten (g.S.Sink.written l.fn.sink) (g.S.Sink.written l.sink) (spelled l.parts)
+      (spelled (drop l.part-index l.parts));
   faults : g.S.Sink.faults l.sink ≡ g.S.Sink.faults l.fn.sink;
 }
