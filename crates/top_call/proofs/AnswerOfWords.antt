@@ -85,7 +85,7 @@ one_run : (options : Options) (bound : ℤ) (text : List ℕ) (t u : TopologyRea
 one_run options bound text t u held arcs after other records others first second =
     let same = loaded_is_one options text t u held arcs first.loaded second.loaded in
     let by_map =
-        subst (λ (v : TopologyRead). IsOutcome v.map (terms_of options bound arcs) other others) (sym same.topology) second.outcome in
+    subst (λ (v : TopologyRead). IsOutcome v.map (terms_of options bound arcs) other others) (sym same.topology) second.outcome in
     let by_held = subst (λ (ns : List ℕ). IsOutcome t.map (terms_of options bound ns) other others) (sym same.held_arcs) by_map in
     let one = outcome_is_one t.map (terms_of options bound held) after other records others first.outcome by_held in
     record { topology = same.topology; held_arcs = same.held_arcs; outcome = one.0; records_are = one.1 }
@@ -94,22 +94,22 @@ simplified_is_one : (options : Options) (bound : ℤ) (text x y : List ℕ) → 
     → IsSimplified options bound text y → x ≡ y
 simplified_is_one options bound text x y first second =
     let one =
-        one_run options bound text first.topology second.topology first.held second.held first.after second.after first.records
-        second.records first.run second.run in
+    one_run options bound text first.topology second.topology first.held second.held first.after second.after first.records
+    second.records first.run second.run in
     first.written ∙ ap (λ (t : TopologyRead). text_with text t first.after) one.topology ∙ ap (text_with text second.topology) one.outcome
-        ∙ sym second.written
+    ∙ sym second.written
 
 certified_is_one : (options : Options) (bound : ℤ) (text x y : List ℕ) → IsCertified options bound text x → IsCertified options bound text y
     → x ≡ y
 certified_is_one options bound text x y first second =
     let one =
-        one_run options bound text first.topology second.topology first.held second.held first.after second.after first.records
-        second.records first.run second.run in
+    one_run options bound text first.topology second.topology first.held second.held first.after second.after first.records
+    second.records first.run second.run in
     first.written
     ∙ ap (λ (held : List ℕ). certificate_text (content (version_of options) bound (scales_of options.weights) held first.records))
-        one.held_arcs
+    one.held_arcs
     ∙ ap (λ (records : List Record). certificate_text (content (version_of options) bound (scales_of options.weights) second.held records))
-        one.records_are
+    one.records_are
     ∙ sym second.written
 
 faced_is_one : (text x y : List ℕ) → IsFaced text x → IsFaced text y → x ≡ y
@@ -120,8 +120,8 @@ faced_is_one text x y first second =
 demoed_is_one : (rows cols seed : ℕ) (bound : ℤ) (x y : List ℕ) → IsDemoed rows cols seed bound x → IsDemoed rows cols seed bound y → x ≡ y
 demoed_is_one rows cols seed bound x y first second =
     let one =
-        one_run plain bound (made rows cols seed) first.topology second.topology first.held second.held first.after second.after
-        first.records second.records first.run second.run in
+    one_run plain bound (made rows cols seed) first.topology second.topology first.held second.held first.after second.after
+    first.records second.records first.run second.run in
     let here = first.run.outcome in
     let there = second.run.outcome in
     let chains = subst (λ (t : TopologyRead). AreChainsIn t.map there.refs) (sym one.topology) there.chains in
@@ -177,23 +177,23 @@ work_answer_is_one : (f : Form) (texts : Texts) (read other : Read) (a b : Answe
 work_answer_is_one (Simplify options bound file) texts read other a b are also first second =
     let same = same_read (text_of texts file) read.file other.file are.0 also.0 in
     map_answer_is_one options read.file (IsSimplified options bound read.file) a b (simplified_is_one options bound read.file)
-        (λ x s is. loaded_not_refused options read.file is.topology is.held s is.run.loaded) first
+    (λ x s is. loaded_not_refused options read.file is.topology is.held s is.run.loaded) first
     (subst (λ (xs : List ℕ). IsMapAnswer options xs (IsSimplified options bound xs) b) same second)
 work_answer_is_one (Layers options bound file) texts read other a b are also first second =
     let same = same_read (text_of texts file) read.file other.file are.0 also.0 in
     map_answer_is_one options read.file (IsCertified options bound read.file) a b (certified_is_one options bound read.file)
-        (λ x s is. loaded_not_refused options read.file is.topology is.held s is.run.loaded) first
+    (λ x s is. loaded_not_refused options read.file is.topology is.held s is.run.loaded) first
     (subst (λ (xs : List ℕ). IsMapAnswer options xs (IsCertified options bound xs) b) same second)
 work_answer_is_one (Check options bound file out cert) texts read other a b are also first second =
     let of_file = same_read (text_of texts file) read.file other.file are.0 also.0 in
     let of_out = same_read (text_of texts out) read.out other.out are.1.0 also.1.0 in
     let of_cert = same_read (text_of texts cert) read.cert other.cert are.1.1.0 also.1.1.0 in
     check_answer_is_one options bound read a b first (subst (λ (r : Read). IsCheckAnswer options bound r b)
-        (same_reads other read of_file of_out of_cert) second)
+    (same_reads other read of_file of_out of_cert) second)
 work_answer_is_one (Faces file) texts read other a b are also first second =
     let same = same_read (text_of texts file) read.file other.file are.0 also.0 in
     map_answer_is_one plain read.file (IsFaced read.file) a b (faced_is_one read.file)
-        (λ x s is. loaded_not_refused plain read.file is.topology is.held s is.loaded) first
+    (λ x s is. loaded_not_refused plain read.file is.topology is.held s is.loaded) first
     (subst (λ (xs : List ℕ). IsMapAnswer plain xs (IsFaced xs) b) same second)
 work_answer_is_one (Make rows cols seed) texts read other a b are also first second = first ∙ sym second
 work_answer_is_one (Demo rows cols seed bound) texts read other a b are also first second =

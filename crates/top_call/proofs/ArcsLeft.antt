@@ -45,10 +45,10 @@ next_one_way : (v : Vertex) (ws : List Vertex) (k : Chain) → k.first ≡ v →
     → IsMonotone k.frame k.first.place (places k.rest)
 next_one_way v ws k e (PlainReaches other f plain turned longer) =
     subst (λ (x : Vertex). IsMonotone k.frame x.place (places k.rest)) (sym e)
-        (subst (λ (x : Frame). IsMonotone x v.place (places k.rest)) (sym f) plain.one_way)
+    (subst (λ (x : Frame). IsMonotone x v.place (places k.rest)) (sym f) plain.one_way)
 next_one_way v ws k e (TurnedReaches other f plain turned longer) =
     subst (λ (x : Vertex). IsMonotone k.frame x.place (places k.rest)) (sym e)
-        (subst (λ (x : Frame). IsMonotone x v.place (places k.rest)) (sym f) turned.one_way)
+    (subst (λ (x : Frame). IsMonotone x v.place (places k.rest)) (sym f) turned.one_way)
 
 walk_apart : (v : Vertex) (ws : List Vertex) (ks ls : List Chain) → IsCutInto v ws ks → AllZip IsRunOf ks ls → AreApart v (joined_rests ls)
 walk_apart v ws [] [] cut runs = tt
@@ -60,7 +60,7 @@ walk_apart v ws (k ∷ ks) (l ∷ ls) cut runs =
     let one_way = run.one_way (next_one_way v ws k cut.0 cut.1) in
     let here : AreApart v l.rest = subst (λ (x : Vertex). AreApart x l.rest) first (run_apart l.frame l.first l.rest one_way) in
     let last : end_of v l.rest ≡ end_of v k.rest = ap (λ (x : Vertex). end_of x l.rest) (sym first) ∙ run.last
-        ∙ ap (λ (x : Vertex). end_of x k.rest) cut.0 in
+    ∙ ap (λ (x : Vertex). end_of x k.rest) cut.0 in
     let later = walk_apart (end_of v k.rest) cut.2 ks ls cut.4 runs.1 in
     apart_joined v l.rest (joined_rests ls) here (subst (λ (x : Vertex). AreApart x (joined_rests ls)) (sym last) later)
 
@@ -98,8 +98,14 @@ run_parts [] later ls runs = record { first = []; second = ls; whole = refl; fir
 run_parts (k ∷ ks) later [] runs = absurd runs
 run_parts (k ∷ ks) later (l ∷ ls) runs =
     let rest = run_parts ks later ls runs.1 in
-    record { first = l ∷ rest.first; second = rest.second; whole = ap (λ (xs : List Chain). l ∷ xs) rest.whole; first_runs =
-        (runs.0, rest.first_runs); second_runs = rest.second_runs }
+    record {
+      first = l ∷ rest.first;
+      second = rest.second;
+      whole = ap (λ (xs : List Chain). l ∷ xs) rest.whole;
+      first_runs =
+          (runs.0, rest.first_runs);
+      second_runs = rest.second_runs;
+    }
 
 firsts_stay : (P : Vertex → Type 0) (ks ls : List Chain) → EachOf (λ k. P k.first) ks → AllZip IsRunOf ks ls → EachOf (λ l. P l.first) ls
 firsts_stay P [] [] each runs = tt
@@ -117,12 +123,12 @@ arcs_stay_arcs arc (ps ∷ pss) ks ls are cut runs =
     let firsts = firsts_stay (λ v. v.arc ≡ arc) here parts.first (parts_of_arc arc ps here cut.3).arcs parts.first_runs in
     let seconds = firsts_stay (λ v. suc arc ≤ v.arc) later parts.second (parts_of_arcs (suc arc) pss later cut.4).arcs parts.second_runs in
     let own : IsArc (joined_arc ps parts.first) =
-        arc_stays_arc ps (vertices_from arc 0 ps) here parts.first (are 0 ps (omega arith)) cut.3 parts.first_runs in
+    arc_stays_arc ps (vertices_from arc 0 ps) here parts.first (are 0 ps (omega arith)) cut.3 parts.first_runs in
     let more : All IsArc (arcs_now (suc arc) pss parts.second) =
-        arcs_stay_arcs (suc arc) pss later parts.second (λ k d below. are (suc k) d (omega arith)) cut.4 parts.second_runs in
+    arcs_stay_arcs (suc arc) pss later parts.second (λ k d below. are (suc k) d (omega arith)) cut.4 parts.second_runs in
     subst (λ (xs : List Chain). All IsArc (arcs_now arc (ps ∷ pss) xs)) (sym parts.whole)
     (All-cons IsArc (joined_arc ps (chains_of_arc arc (parts.first ++ parts.second)))
-        (arcs_now (suc arc) pss (chains_past_arc arc (parts.first ++ parts.second)))
+    (arcs_now (suc arc) pss (chains_past_arc arc (parts.first ++ parts.second)))
     (subst (λ (xs : List Chain). IsArc (joined_arc ps xs)) (sym (taken arc parts.first parts.second firsts seconds)) own)
     (subst (λ (xs : List Chain). All IsArc (arcs_now (suc arc) pss xs)) (sym (left_over arc parts.first parts.second firsts seconds)) more))
 

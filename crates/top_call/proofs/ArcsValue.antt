@@ -57,7 +57,7 @@ object_lies s k end holder members t are h =
     let mapped = then-ok (map_of headed.0 arced.0 holder members) _ t arced.2 in
     let same = same-ok (record { map = mapped.0; arcs_at = extent_of valued.0 }) t mapped.2 in
     let value =
-        found_is_value s (codes "arcs") k end members valued.0 are (found_once holder valued.0 (lookup (codes "arcs") members) valued.1) in
+    found_is_value s (codes "arcs") k end members valued.0 are (found_once holder valued.0 (lookup (codes "arcs") members) valued.1) in
     let node = tree-node s value.0 valued.0 value.1 in
     subst (λ (u : TopologyRead). LiesWithin s u.arcs_at) same (record { forwards = node.long; within = node.in_text })
 

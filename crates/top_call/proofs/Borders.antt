@@ -59,13 +59,13 @@ even_chosen m ks even known = λ at d within. All-get_or (HasEvenEnds m.arcs) m.
 border_text_is_one : (m : Map) (polygons x y : List ℕ) → IsBorderText m polygons x → IsBorderText m polygons y → x ≡ y
 border_text_is_one m polygons x y first second =
     first.written ∙ ap rings_text (same-rings m (odd_arcs m polygons) first.rings second.rings first.border second.border)
-        ∙ sym second.written
+    ∙ sym second.written
 
 dissolved_is_one : (polygons text x y : List ℕ) → IsDissolved polygons text x → IsDissolved polygons text y → x ≡ y
 dissolved_is_one polygons text x y first second =
     let same = text_has_one_topology text first.topology second.topology first.loaded.topology second.loaded.topology in
     border_text_is_one first.topology.map polygons x y first.is_text
-        (subst (λ (t : TopologyRead). IsBorderText t.map polygons y) (sym same) second.is_text)
+    (subst (λ (t : TopologyRead). IsBorderText t.map polygons y) (sym same) second.is_text)
 
 missing_is_one : (polygons text : List ℕ) (j k : ℕ) → IsMissing polygons text j → IsMissing polygons text k → j ≡ k
 missing_is_one polygons text j k first second =
@@ -109,7 +109,7 @@ dissolve_settles written old new polygons text file tells (Ok b) result same is 
 dissolve_settles written old new polygons text file tells (Err s) result same is refusal status replies ended =
     let of_file = subst (λ (xs : List ℕ). (s ≡ NoMemory) ⊎ IsDissolveAnswer polygons xs (refused s)) same refusal in
     let answer =
-        settled_refused (IsDissolveAnswer polygons file) tells (written old) (written new) s (ap written ended.1) status (known of_file) in
+    settled_refused (IsDissolveAnswer polygons file) tells (written old) (written new) s (ap written ended.1) status (known of_file) in
     subst (λ (r : Status). Settles (IsDissolveAnswer polygons file) tells (written old) (written new) r) (sym ended.0) answer
   where
     known : (s ≡ NoMemory) ⊎ IsDissolveAnswer polygons file (refused s) → s ≢ NoMemory → IsDissolveAnswer polygons file (refused s)
@@ -164,7 +164,7 @@ missing_as : (options : Options) (polygons text : List ℕ) (t : TopologyRead) (
     → first_missing (length t.map.polygons) polygons ≡ o
 missing_as options polygons text t held m count numbers o are is =
     sym (is ∙ ap (λ (n : ℕ). first_missing n numbers) (are.count_is ∙ ap (λ (n : Map). length n.polygons) are.map_is)
-        ∙ ap (first_missing (length t.map.polygons)) are.numbers_are)
+    ∙ ap (first_missing (length t.map.polygons)) are.numbers_are)
 
 pub dissolve_missed : (options : Options) (polygons text : List ℕ) (t : TopologyRead) (held : List ℕ) (m : Map) (count : ℕ)
     (numbers : List ℕ) (k : ℕ) → AreAtHand options polygons text t held m count numbers → Some k ≡ first_missing count numbers

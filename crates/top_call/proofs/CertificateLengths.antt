@@ -85,16 +85,19 @@ five_texts a b c d e =
 
 nine_texts : (a b c d e f g h i : List ℕ)
     → length (a ++ b ++ c ++ d ++ e ++ f ++ g ++ h ++ i) ≡ length a + length b + length c + length d + length e + length f + length g
-        + length h + length i
+    + length h + length i
 nine_texts a b c d e f g h i = omega (arith, five_texts a b c d e, five_texts (a ++ b ++ c ++ d ++ e) f g h i)
 
 -- the bytes of a record, part by part
 record_parts : (r : Record)
     → length (record_text r) ≡ 34 + length (decimal r.arc) + length (decimal r.«from») + length (numbers_text r.kept) + length
-        (numbers_text r.layers)
+    (numbers_text r.layers)
 record_parts r =
-    omega (arith, nine_texts (codes "{\"arc\":") (decimal r.arc) (codes ",\"from\":") (decimal r.«from») (codes ",\"kept\":")
-    (numbers_text r.kept) (codes ",\"layers\":") (numbers_text r.layers) (codes "}"))
+    omega (
+      arith,
+      nine_texts (codes "{\"arc\":") (decimal r.arc) (codes ",\"from\":") (decimal r.«from») (codes ",\"kept\":")
+          (numbers_text r.kept) (codes ",\"layers\":") (numbers_text r.layers) (codes "}"),
+    )
 
 -- where no number has more digits than these
 record_fits : (digits : ℕ) (m : ℕ) (r : Record) → IsOfEdges m r → ((n : ℕ) → n ≤ m → length (decimal n) ≤ digits)
@@ -102,19 +105,38 @@ record_fits : (digits : ℕ) (m : ℕ) (r : Record) → IsOfEdges m r → ((n : 
 record_fits digits m r is short =
     let kept = numbers_listed digits r.kept is.some_kept (λ k d below. short _ (is.kept k d below)) in
     let layers = numbers_listed digits r.layers (omega (arith, is.layer_count)) (λ k d below. short _ (is.layers k d below)) in
-    omega (arith, kept, layers, record_parts r, seven_digits r.arc (omega (arith, is.arc)), seven_digits r.«from»
-        (omega (arith, is.«from»)))
+    omega (
+      arith,
+      kept,
+      layers,
+      record_parts r,
+      seven_digits r.arc (omega (arith, is.arc)),
+      seven_digits r.«from»
+          (omega (arith, is.«from»)),
+    )
 
 -- a record of a chain of one edge, and of one of more edges
 record_of_one : (m : ℕ) (r : Record) → m ≤ 1 → IsOfEdges m r → 1 ≤ m → 1 + length (record_text r) ≤ 59 * m
 record_of_one m r one is edge =
-    omega (arith, record_fits 1 m r is (λ n within. one_digit n (omega (arith, within, one))), room_1 r.kept, room_1 r.layers, is.few_kept,
-        is.layer_count)
+    omega (
+      arith,
+      record_fits 1 m r is (λ n within. one_digit n (omega (arith, within, one))),
+      room_1 r.kept,
+      room_1 r.layers,
+      is.few_kept,
+      is.layer_count,
+    )
 
 record_of_more : (m : ℕ) (r : Record) → 1 < m → m ≤ 1023 → IsOfEdges m r → 1 + length (record_text r) ≤ 59 * m
 record_of_more m r more few is =
-    omega (arith, record_fits 4 m r is (λ n within. four_digits n (omega (arith, within, few))), room_4 r.kept, room_4 r.layers,
-        is.few_kept, is.layer_count)
+    omega (
+      arith,
+      record_fits 4 m r is (λ n within. four_digits n (omega (arith, within, few))),
+      room_4 r.kept,
+      room_4 r.layers,
+      is.few_kept,
+      is.layer_count,
+    )
 
 pub record_is_short : (m : ℕ) (r : Record) → 1 ≤ m → m ≤ 1023 → IsOfEdges m r → 1 + length (record_text r) ≤ 59 * m
 record_is_short m r edge few is =
@@ -130,8 +152,13 @@ held_fits version held small = at_version (nat_le 2 version)
   where
     listed_held : length (numbers_text held) ≤ 2 + 8 * length held
     listed_held =
-        omega (arith, list_fits (map decimal held), numbers_fit 7 held
-        (λ k d below. seven_digits _ (omega (arith, small k d below))), room_7 held)
+        omega (
+          arith,
+          list_fits (map decimal held),
+          numbers_fit 7 held
+              (λ k d below. seven_digits _ (omega (arith, small k d below))),
+          room_7 held,
+        )
 
     at_version : (b : Bool) → length (if b then codes ",\"held\":" ++ numbers_text held else []) ≤ 10 + 8 * length held
     at_version true = omega (arith, length-append (codes ",\"held\":") (numbers_text held), listed_held)
@@ -142,8 +169,15 @@ weights_fit version wx wy across up = at_version (nat_le 3 version)
   where
     both : length (numbers_text (wx ∷ wy ∷ [])) ≤ 13
     both =
-        omega (arith, listed_fits (decimal wx) (decimal wy ∷ []), length-append (44 ∷ decimal wx) ((44 ∷ decimal wy) ++ []), length-append
-            (44 ∷ decimal wy) [], five_digits wx (omega (arith, across)), five_digits wy (omega (arith, up)))
+        omega (
+          arith,
+          listed_fits (decimal wx) (decimal wy ∷ []),
+          length-append (44 ∷ decimal wx) ((44 ∷ decimal wy) ++ []),
+          length-append
+              (44 ∷ decimal wy) [],
+          five_digits wx (omega (arith, across)),
+          five_digits wy (omega (arith, up)),
+        )
 
     at_version : (b : Bool) → length (if b then codes ",\"weights\":" ++ numbers_text (wx ∷ wy ∷ []) else []) ≤ 24
     at_version true = omega (arith, length-append (codes ",\"weights\":") (numbers_text (wx ∷ wy ∷ [])), both)
@@ -152,8 +186,14 @@ weights_fit version wx wy across up = at_version (nat_le 3 version)
 eight_texts : (a b c d e f g h : List ℕ)
     → length (a ++ b ++ c ++ d ++ e ++ f ++ g ++ h) ≡ length a + length b + length c + length d + length e + length f + length g + length h
 eight_texts a b c d e f g h =
-    omega (arith, five_texts a b c d e, length-append (a ++ b ++ c ++ d ++ e) f, length-append (a ++ b ++ c ++ d ++ e ++ f) g, length-append
-        (a ++ b ++ c ++ d ++ e ++ f ++ g) h)
+    omega (
+      arith,
+      five_texts a b c d e,
+      length-append (a ++ b ++ c ++ d ++ e) f,
+      length-append (a ++ b ++ c ++ d ++ e ++ f) g,
+      length-append
+          (a ++ b ++ c ++ d ++ e ++ f ++ g) h,
+    )
 
 -- what a certificate says keeps to these numbers
 pub record HasShortParts (c : Content) : Type 0 where

@@ -41,8 +41,8 @@ judged_for options bound text cert t held s version w c verdict after loaded fre
     let by_version = subst (λ (n : ℕ). IsJudged (demand n bound w) s.held s.work c verdict after) is_version judged in
     let by_weights = subst (λ (v : Scales). IsJudged (demand (version_of options) bound v) s.held s.work c verdict after) is_w by_version in
     let by_held =
-        subst (λ (arcs : List ℕ). IsJudged (demand (version_of options) bound (scales_of options.weights)) arcs s.work c verdict after)
-        fresh.held_arcs by_weights in
+    subst (λ (arcs : List ℕ). IsJudged (demand (version_of options) bound (scales_of options.weights)) arcs s.work c verdict after)
+    fresh.held_arcs by_weights in
     record {
       held = held;
       loaded = loaded;
@@ -81,7 +81,7 @@ pub compared_with : (options : Options) (bound : ℤ) (read : Read) (t : Topolog
 compared_with options bound read t held s u verdict found m file expected out fresh after is_yes judged is_map is_file is is_out compared =
     let same : m ≡ map_now t.map u.work.chains = is_map ∙ ap (λ (n : Map). map_now n u.work.chains) (after.map_read ∙ fresh.map_read) in
     let text : expected ≡ text_with read.file t (map_now t.map u.work.chains) = is ∙ ap (λ (xs : List ℕ). text_with xs t m) is_file
-        ∙ ap (text_with read.file t) same in
+    ∙ ap (text_with read.file t) same in
     let behind = subst (λ (xs : List ℕ). IsComparison expected xs found) is_out compared in
     IsCompared t u.work.chains (subst (λ (v : Verdict). IsJudgedFor options bound read.file read.cert t v u.work.chains) is_yes judged)
     (subst (λ (xs : List ℕ). IsComparison xs read.out found) text behind)

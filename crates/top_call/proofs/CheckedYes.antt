@@ -29,10 +29,13 @@ pub run_is_one : (options : Options) (bound : ℤ) (text : List ℕ) (t u : Topo
 run_is_one options bound text t u held arcs after other records others first second =
     let same = loaded_is_one options text t u held arcs first.loaded second.loaded in
     let by_map =
-        subst (λ (v : TopologyRead). IsOutcome v.map (terms_of options bound arcs) other others) (sym same.topology) second.outcome in
+    subst (λ (v : TopologyRead). IsOutcome v.map (terms_of options bound arcs) other others) (sym same.topology) second.outcome in
     let by_held = subst (λ (ns : List ℕ). IsOutcome t.map (terms_of options bound ns) other others) (sym same.held_arcs) by_map in
-    record { topology = same.topology; outcome =
-        (outcome_is_one t.map (terms_of options bound held) after other records others first.outcome by_held).0 }
+    record {
+      topology = same.topology;
+      outcome =
+          (outcome_is_one t.map (terms_of options bound held) after other records others first.outcome by_held).0;
+    }
 
 -- the certificate of a run is judged Yes, and the judged map is the outcome
 pub record IsCertifiedYes (options : Options) (bound : ℤ) (text cert : List ℕ) (t : TopologyRead) (after : Map) : Type 0 where
@@ -46,8 +49,8 @@ certified_yes options bound text cert by weights is_bound =
     let t = by.topology in
     let outcome = by.run.outcome in
     let yes =
-        records_are_judged_yes t.map (terms_of options bound by.held) by.after by.records
-        (version_of options) outcome.refs outcome.chains outcome in
+    records_are_judged_yes t.map (terms_of options bound by.held) by.after by.records
+    (version_of options) outcome.refs outcome.chains outcome in
     record {
       chains = yes.chains;
       judged = record {
@@ -55,8 +58,11 @@ certified_yes options bound text cert by weights is_bound =
         loaded = by.run.loaded;
         content = content (version_of options) bound (scales_of options.weights) by.held by.records;
         is_content =
-            record { certificate = run_is_certified options bound text t by.held by.after by.records weights is_bound by.run; text =
-            sym by.written };
+            record {
+              certificate = run_is_certified options bound text t by.held by.after by.records weights is_bound by.run;
+              text =
+                  sym by.written;
+            };
         refs = outcome.refs;
         chains = outcome.chains;
         judged = yes.judged;
@@ -71,10 +77,10 @@ pub written_as_expected : (options : Options) (bound : ℤ) (read : Read) (simpl
     (map_now certified.topology.map chains) ≡ read.out
 written_as_expected options bound read simplified certified chains made =
     let one =
-        run_is_one options bound read.file certified.topology simplified.topology certified.held simplified.held certified.after
-        simplified.after certified.records simplified.records certified.run simplified.run in
+    run_is_one options bound read.file certified.topology simplified.topology certified.held simplified.held certified.after
+    simplified.after certified.records simplified.records certified.run simplified.run in
     ap (text_with read.file certified.topology) (sym made ∙ one.outcome)
-        ∙ ap (λ (t : TopologyRead). text_with read.file t simplified.after) one.topology ∙ sym simplified.written
+    ∙ ap (λ (t : TopologyRead). text_with read.file t simplified.after) one.topology ∙ sym simplified.written
 
 pub simplified_is_checked : (options : Options) (bound : ℤ) (read : Read) → AreWeights options.weights → IsBound bound
     → IsSimplified options bound read.file read.out → IsCertified options bound read.file read.cert → IsChecked options bound read Yes

@@ -35,8 +35,8 @@ demoed_by rows cols seed bound bytes text options t held after records w chains 
     let with_plain = subst (λ (o : Options). IsLoaded o text t held) is_plain loaded in
     let of_made = subst (λ (xs : List ℕ). IsLoaded plain xs t held) is_made with_plain in
     let weighed =
-        subst (λ (v : Scales). IsOutcome t.map (record { held = held; bound = bound; weights = v }) after records)
-        (is_w ∙ ap (λ (o : Options). scales_of o.weights) is_plain) outcome in
+    subst (λ (v : Scales). IsOutcome t.map (record { held = held; bound = bound; weights = v }) after records)
+    (is_w ∙ ap (λ (o : Options). scales_of o.weights) is_plain) outcome in
     let all = one_each (terms_of plain bound held) _ 0 (length weighed.refs) records weighed.last of_made.beside.1 weighed.replaced in
     record {
       topology = t;

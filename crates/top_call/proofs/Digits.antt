@@ -23,4 +23,4 @@ pub stops : (least most n i : ℕ) (digits : List ℕ) → i < length digits →
 stops least most n i digits within is more =
     at_drop_more (λ (ds : List ℕ). between least most (read_digits n ds)) digits i 0 within
     ∙ one_more least most n (slice_index digits i) (drop (i + 1) digits)
-        (too_great least most (10 * n + (slice_index digits i - 48)) (drop (i + 1) digits) more) true is
+    (too_great least most (10 * n + (slice_index digits i - 48)) (drop (i + 1) digits) more) true is

@@ -91,7 +91,7 @@ held_first : (held : List ℕ) (k : ℕ) (r : ChainRef) (rs : List ChainRef) →
     → free_left held (r ∷ rs) k ≡ free_left held rs (k + 1)
 held_first held k r rs has =
     cond-false (is_free held (k, r)) ((k, r) ∷ free_left held rs (k + 1)) (free_left held rs (k + 1))
-        (not_from_true (is_held held r.arc) (held_from_contains held r.arc has))
+    (not_from_true (is_held held r.arc) (held_from_contains held r.arc has))
 
 -- ---- all records
 
@@ -119,7 +119,7 @@ records_are_accepted t version m w after k e (r ∷ rs) records read (inr run) =
     let left = later_as_read m w.chains k (suc k) (vertices_at (chain_at w.chains k) (drop 1 one.kept)) rs (omega arith) read.1 in
     let later = records_are_accepted t version m (thinned_work w k one.kept) after (suc k) (e + 1) rs run.2 left run.5 in
     let behind =
-        subst (λ (n : ℕ). AreAccepted t version (thinned_work w k one.kept) after (e + 1) (free_left t.held rs n) run.2) next later in
+    subst (λ (n : ℕ). AreAccepted t version (thinned_work w k one.kept) after (e + 1) (free_left t.held rs n) run.2) next later in
     let arc : one.arc ≡ r.arc = is.arc ∙ ap (λ (c : Chain). c.first.arc) read.0 in
     let start : one.«from» ≡ r.«from» = is.«from» ∙ ap (λ (c : Chain). c.first.at) read.0 in
     let spot : record_spot one ≡ chain_spot (k, r) = cc in
@@ -132,8 +132,8 @@ records_are_judged_yes m t after records version refs chains outcome =
     let same = chains_lie_once m outcome.refs refs outcome.chains chains in
     let run = subst (λ (rs : List ChainRef). AreReplaced t (work_of m rs) 0 (length rs) records outcome.last) same outcome.replaced in
     let all =
-        records_are_accepted t version m (work_of m refs) outcome.last 0 0 refs records
-        (left_as_read m (map (chain_in m) refs) 0 refs refl) run in
+    records_are_accepted t version m (work_of m refs) outcome.last 0 0 refs records
+    (left_as_read m (map (chain_in m) refs) 0 refs refl) run in
     record {
       chains = outcome.last.chains;
       judged = inr (record { version = refl; bound = refl; weights = (refl, refl); held_arcs = refl; chains = all.spots }, all.judged);

@@ -45,11 +45,11 @@ simplified_keeps_lines options bound text bytes before after is has_before has_a
     let reads = (simplified_reads_back options bound text bytes is).reads in
     let here = text_has_one_topology text before is.topology has_before loaded.topology in
     let there =
-        text_has_one_topology bytes after (record { map = is.after; arcs_at = reads.arcs_at }) has_after
-        (has_written bytes is.after reads) in
+    text_has_one_topology bytes after (record { map = is.after; arcs_at = reads.arcs_at }) has_after
+    (has_written bytes is.after reads) in
     ap (λ (t : TopologyRead). faces_text t.map) there
     ∙ outcome_keeps_lines is.topology.map (terms_of options bound is.held) is.after is.records
-        (arranged_with options.hold is.topology.map is.held loaded.beside) is.run.outcome
+    (arranged_with options.hold is.topology.map is.held loaded.beside) is.run.outcome
     ∙ ap (λ (t : TopologyRead). faces_text t.map) (sym here)
 
 -- ---- positions on the grid
@@ -58,7 +58,7 @@ simplified_keeps_lines options bound text bytes before after is has_before has_a
 unweighed : (w z : ℤ) → pos 1 ≤ℤ w → IsGridNumber (w *ℤ z) → IsGridNumber (pos 1 *ℤ z)
 unweighed w z least on_grid =
     let more : (w -ℤ pos 1) *ℤ z ≡ w *ℤ z -ℤ pos 1 *ℤ z =
-        identity_2 w z (λ w z. (w ⊖ Whole (pos 1)) ⊗ z ≈ w ⊗ z ⊖ Whole (pos 1) ⊗ z) refl in
+    identity_2 w z (λ w z. (w ⊖ Whole (pos 1)) ⊗ z ≈ w ⊗ z ⊖ Whole (pos 1) ⊗ z) refl in
     let one = one-*ℤ z in
     let low = on_grid.low in
     let high = on_grid.high in
@@ -68,7 +68,7 @@ unweighed w z least on_grid =
           record { low = omega (arith, sums, more, one, low, high); high = omega (arith, sums, more, one, low, high) }
       | inr down ↦
           let product : ((w -ℤ pos 1) *ℤ z) ≤ℤ pos 0 =
-              nonnegative_times_nonpositive (w -ℤ pos 1) z (omega (arith, sums)) (omega (arith, sums)) in
+          nonnegative_times_nonpositive (w -ℤ pos 1) z (omega (arith, sums)) (omega (arith, sums)) in
           record { low = omega (arith, sums, more, one, low, high); high = omega (arith, sums, more, one, low, high) }
     ]
 
@@ -87,8 +87,8 @@ fitting_stay w m new fits stay = λ arc d within at e inside.
     let below : arc < length m.arcs = omega (arith, fits.count, within) in
     let same : get_or new.arcs arc d ≡ arc_at new arc = get_or_default new.arcs arc d [] within in
     let each : All (StaysOnGrid w) (arc_at new arc) =
-        (λ k f short. All-contains (StaysOnGrid w) (arc_at m arc) (get_or (arc_at new arc) k f) (stay arc [] below)
-        ((fits.arcs arc below).places k f short)) in
+    (λ k f short. All-contains (StaysOnGrid w) (arc_at m arc) (get_or (arc_at new arc) k f) (stay arc [] below)
+    ((fits.arcs arc below).places k f short)) in
     subst (λ (ps : List Place). All (StaysOnGrid w) ps) (sym same) each at e inside
 
 -- ---- an arranged map has no held arcs
@@ -137,19 +137,19 @@ lines_written options bound text bytes lines is faced =
     let has = has_written bytes is.after reads in
     let same = text_has_one_topology text faced.topology is.topology faced.loaded.topology loaded.topology in
     let as_plain : IsLoaded plain text is.topology faced.held =
-        subst (λ (t : TopologyRead). IsLoaded plain text t faced.held) same faced.loaded in
+    subst (λ (t : TopologyRead). IsLoaded plain text t faced.held) same faced.loaded in
     let none : is.held ≡ [] = none_beside options.hold m is.held as_plain.beside.0 loaded.beside in
     let was : IsMapArranged is.held m = arranged_with options.hold m is.held loaded.beside in
     let kept = outcome_keeps_faces m (terms_of options bound is.held) is.after is.records was is.run.outcome in
     let arranged : IsArranged is.after = subst (λ (held : List ℕ). IsMapArranged held is.after) none kept.arranged in
     let fits =
-        outcome_fits m (terms_of options bound is.held) is.after is.records
-        (read_map_is_map text is.topology loaded.topology).arcs is.run.outcome in
+    outcome_fits m (terms_of options bound is.held) is.after is.records
+    (read_map_is_map text is.topology loaded.topology).arcs is.run.outcome in
     let written : IsLoaded plain bytes (record { map = is.after; arcs_at = reads.arcs_at }) [] =
-        record { topology = has; weights = fitting_stay ones m is.after fits as_plain.weights; beside = (arranged, refl) } in
+    record { topology = has; weights = fitting_stay ones m is.after fits as_plain.weights; beside = (arranged, refl) } in
     let keeps =
-        simplified_keeps_lines options bound text bytes faced.topology
-        (record { map = is.after; arcs_at = reads.arcs_at }) is faced.loaded.topology has in
+    simplified_keeps_lines options bound text bytes faced.topology
+    (record { map = is.after; arcs_at = reads.arcs_at }) is faced.loaded.topology has in
     only_lines bytes (record { map = is.after; arcs_at = reads.arcs_at }) [] lines written (faced.written ∙ sym keeps)
 
 -- where no arcs are to be held, a text that is simplified has lines
@@ -159,8 +159,12 @@ plain_lines options bound text bytes none weights is =
     let loaded = is.run.loaded in
     let arranged = plainly_beside options.hold is.topology.map is.held none loaded.beside in
     let as_plain : IsLoaded plain text is.topology [] =
-        record { topology = loaded.topology; weights = stay_unweighed options.weights is.topology.map.arcs weights loaded.weights; beside =
-        (arranged, refl) } in
+    record {
+      topology = loaded.topology;
+      weights = stay_unweighed options.weights is.topology.map.arcs weights loaded.weights;
+      beside =
+          (arranged, refl);
+    } in
     (faces_text is.topology.map, record { topology = is.topology; held = []; loaded = as_plain; written = refl })
 
 pub faces_answers_alike : FacesAnswersAlike
@@ -171,7 +175,9 @@ faces_answers_alike options bound file out read written limits simplifies =
           let has = plain_lines options bound read.file written.file none limits.0 is in
           (has.0, Written has.0 has.1 refl);
       same_lines = λ lines answer.
-          let faced = written_by plain read.file (IsFaced read.file) lines answer in
-          (only_lines read.file faced.topology faced.held lines faced.loaded faced.written, lines_written options bound read.file
-              written.file lines is faced);
+          let faced = written_by plain read.file (IsFaced read.file) lines answer in (
+            only_lines read.file faced.topology faced.held lines faced.loaded faced.written,
+            lines_written options bound read.file
+                written.file lines is faced,
+          );
     }

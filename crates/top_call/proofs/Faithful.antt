@@ -61,8 +61,14 @@ record_is_fewest t w more records after n d run within =
     let one = record_found t w 0 more records after n d run within in
     let same : 0 + one.steps ≡ one.steps = omega arith in
     let best = subst (λ (j : ℕ). IsRecordOf t one.found j (get_or records n d)) same one.best in
-    record { chain = one.steps; found = one.found; before = one.before; best = best; certified =
-        layers_certify_path t one.found one.steps (get_or records n d) best }
+    record {
+      chain = one.steps;
+      found = one.found;
+      before = one.before;
+      best = best;
+      certified =
+          layers_certify_path t one.found one.steps (get_or records n d) best;
+    }
 
 -- ---- all of it
 

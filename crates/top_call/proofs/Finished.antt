@@ -47,8 +47,13 @@ of_file f options texts file W bytes names works (TooLong role past is) =
     absurd cc
 of_file f options texts file W bytes names works (Worked read are short work) =
     let here = subst (λ (ns : List Named). AreRead texts ns read) names are in
-    record { text = read.file; is_held = here.0; short = short.file; is =
-        written_by options read.file (W read.file) bytes (works read (done bytes) work) }
+    record {
+      text = read.file;
+      is_held = here.0;
+      short = short.file;
+      is =
+          written_by options read.file (W read.file) bytes (works read (done bytes) work);
+    }
 
 simplified_of : (options : Options) (bound : ℤ) (texts : Texts) (file bytes : List ℕ)
     → IsFormAnswer (Simplify options bound file) texts (done bytes) → IsOfFile texts file (IsSimplified options bound) bytes
@@ -74,8 +79,8 @@ finished words texts tells before now s f bytes settled read write is_form is =
       | inl none ↦ inr none
       | inr known ↦
           let one =
-              form_answer_is_one f texts known.0 (done bytes) (subst (λ (o : Option Form). IsAnswerBy o texts known.0) is_form known.1)
-              is in
+          form_answer_is_one f texts known.0 (done bytes) (subst (λ (o : Option Form). IsAnswerBy o texts known.0) is_form known.1)
+          is in
           inl (known.2 ∙ ap (λ (a : Answer). a.status) one, λ told. known.3 told ∙ ap (λ (a : Answer). before ++ a.bytes) one)
     ]
 
@@ -103,7 +108,7 @@ pub reaches_yes : (words : List (List ℕ)) (texts : Texts) (tells : Bool) (befo
 reaches_yes words texts tells before now s settled read write options bound file out cert is_form are =
     let limits = (form_spells words (Some (Check options bound file out cert)) (sym is_form)).1 in
     finished words texts tells before now s (Check options bound file out cert) (verdict_line Yes) settled read write is_form
-        (yes_answered options bound texts file out cert limits are)
+    (yes_answered options bound texts file out cert limits are)
 
 -- ---- the lines of FILE
 
@@ -116,15 +121,17 @@ lines_answered options bound texts file out lines are is =
     let faced = subst (λ (xs : List ℕ). IsFaced xs lines) same other.is in
     let only = lines_written options bound thinned.text are.written lines thinned.is faced in
     Worked (record { file = are.written; out = []; cert = [] }) (are.is_held, tt)
-        (record { file = are.short; out = omega arith; cert = omega arith }) ((only (done lines)).1 refl)
+    (record { file = are.short; out = omega arith; cert = omega arith }) ((only (done lines)).1 refl)
 
 file_has_lines : (options : Options) (bound : ℤ) (texts : Texts) (file out : List ℕ) → IsWrittenFor options bound texts file out
     → options.hold ≡ false → (lines : List ℕ) × IsFormAnswer (Faces file) texts (done lines)
 file_has_lines options bound texts file out are none =
     let thinned = simplified_of options bound texts file are.written are.simplified in
-    let has = plain_lines options bound thinned.text are.written none are.limits.0 thinned.is in
-    (has.0, Worked (record { file = thinned.text; out = []; cert = [] }) (thinned.is_held, tt)
-        (record { file = thinned.short; out = omega arith; cert = omega arith }) (Written has.0 has.1 refl))
+    let has = plain_lines options bound thinned.text are.written none are.limits.0 thinned.is in (
+      has.0,
+      Worked (record { file = thinned.text; out = []; cert = [] }) (thinned.is_held, tt)
+          (record { file = thinned.short; out = omega arith; cert = omega arith }) (Written has.0 has.1 refl),
+    )
 
 pub keeps_lines : (words : List (List ℕ)) (texts : Texts) (tells : Bool) (before now : List ℕ) (s : Status)
     → Settles (IsAnswer words texts) tells before now s → s ≢ ReadFault → s ≢ WriteFault → KeepsLines words texts tells before now s

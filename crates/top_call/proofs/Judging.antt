@@ -47,5 +47,5 @@ judges words texts tells before now s settled read write options bound file out 
       | inr known ↦
           subst IsJudgingStatus (sym known.2)
           (judging_ends options bound texts file out cert known.0 can
-              (subst (λ (o : Option Form). IsAnswerBy o texts known.0) is_form known.1))
+          (subst (λ (o : Option Form). IsAnswerBy o texts known.0) is_form known.1))
     ]

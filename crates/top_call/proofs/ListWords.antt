@@ -34,9 +34,9 @@ rising_step most least room word words (Some n) small is more e =
     let range = number_in_range least most word n is in
     let spelled : word ≡ decimal n = number_spelled least most word n small is in
     let again : number_between 0 most word ≡ Some n = ap (number_between 0 most) spelled
-        ∙ number_found 0 most n small (omega arith) range.1 in
+    ∙ number_found 0 most n small (omega arith) range.1 in
     let numbers : numbers_in most (word ∷ words) ≡ n ∷ numbers_in most words =
-        ap (λ (p : Option ℕ). number_then p (numbers_in most words)) again in
+    ap (λ (p : Option ℕ). number_then p (numbers_in most words)) again in
     let fits : length (n ∷ numbers_in most words) ≤ room = omega (arith, rest.few, some) in
     record {
       words_are = ap (λ (w : List ℕ). w ∷ words) spelled ∙ ap (λ (ws : List (List ℕ)). decimal n ∷ ws) rest.words_are
@@ -50,7 +50,7 @@ rising_made : (most least room : ℕ) (words : List (List ℕ)) → most < 2 ^ 6
 rising_made most least room [] small e = record { words_are = refl; few = omega arith; rising = tt }
 rising_made most least room (word ∷ words) small e =
     rising_step most least room word words (number_between least most word) small refl
-        (λ n rises. rising_made most (n + 1) (room - 1) words small rises) e
+    (λ n rises. rising_made most (n + 1) (room - 1) words small rises) e
 
 -- the list is that of its numbers
 pub record IsListed (most room : ℕ) (list : List ℕ) : Type 0 where
@@ -62,7 +62,7 @@ list_made most room list small e =
     let are = rising_made most 0 room (words_between list) small e in
     let words = length-slice_split (λ (b : ℕ). b == 44) list in
     let numbers : length (words_between list) ≡ length (numbers_of most list) = ap length are.words_are
-        ∙ length-map (numbers_of most list) decimal in
+    ∙ length-map (numbers_of most list) decimal in
     record {
       spelled = sym (join_with_byte-slice_split 44 list) ∙ ap (join_with_byte 44) are.words_are;
       numbers = record { some = omega (arith, words, numbers); few = are.few; rising = are.rising };
@@ -76,7 +76,7 @@ rising_found most least room [] small rising few = refl
 rising_found most least room (n ∷ ns) small rising few =
     let found = number_found least most n small rising.0 rising.1 in
     let rest : are_rising most (n + 1) (room - 1) (map decimal ns) ≡ true =
-        rising_found most (n + 1) (room - 1) ns small rising.2 (omega arith) in
+    rising_found most (n + 1) (room - 1) ns small rising.2 (omega arith) in
     let some : nat_lt 0 room ≡ true = lt-ltb 0 room (omega arith) in
     let both : (nat_lt 0 room && are_rising most (n + 1) (room - 1) (map decimal ns)) ≡ true = λ i. some i && rest i in
     ap (is_some_number (λ k. nat_lt 0 room && are_rising most (k + 1) (room - 1) (map decimal ns))) found ∙ both
@@ -103,7 +103,7 @@ words_joined most least n [] small rising =
     slice_split_none (λ b. b == 44) (decimal n) (no_comma (decimal n) (decimal_is_IsNumeral n (omega (arith, rising.1))).0.1)
 words_joined most least n (m ∷ ns) small rising =
     slice_split_at (λ b. b == 44) (decimal n) 44 (join_with_byte 44 (map decimal (m ∷ ns)))
-        (no_comma (decimal n) (decimal_is_IsNumeral n (omega (arith, rising.1))).0.1) refl
+    (no_comma (decimal n) (decimal_is_IsNumeral n (omega (arith, rising.1))).0.1) refl
     ∙ ap (λ (ws : List (List ℕ)). decimal n ∷ ws) (words_joined most (n + 1) m ns small rising.2)
 
 words_found : (most room : ℕ) (numbers : List ℕ) → most < 2 ^ 64 → AreListed most room numbers
@@ -133,7 +133,7 @@ pub all_small : (most : ℕ) (words : List (List ℕ)) → All (λ n. n ≤ most
 all_small most [] = All-nil (λ n. n ≤ most)
 all_small most (word ∷ words) =
     small_then most (number_between 0 most word) (numbers_in most words) (λ n is. (number_in_range 0 most word n is).1)
-        (all_small most words)
+    (all_small most words)
 
 -- ---- what is left of a list
 
@@ -150,4 +150,3 @@ cut_at_comma word rest lacks = slice_split_at (λ b. b == 44) word 44 rest (lack
 
 pub uncut : (word : List ℕ) → ((i : ℕ) → i < length word → get_or word i 0 ≢ 44) → words_between word ≡ word ∷ []
 uncut word lacks = slice_split_none (λ b. b == 44) word (lacks_comma word lacks)
-

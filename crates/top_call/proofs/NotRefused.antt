@@ -89,7 +89,7 @@ made_not_refused rows cols seed s is why =
       reads = reads.topology;
     } in
     never_refused plain (made rows cols seed) t s has (λ w some. absurd (none-some w some))
-        (λ none. made_maps_are_arranged rows cols seed) why
+    (λ none. made_maps_are_arranged rows cols seed) why
 
 pub made_wants_memory : (rows cols seed : ℕ) (s : Status) → IsMakeable rows cols seed → IsRefused plain (made rows cols seed) s
     → s ≡ NoMemory

@@ -107,7 +107,7 @@ number_found least most n small low high =
       | inr more ↦ absurd (omega (arith, zero_first, first_decimal n (omega arith) fits))
     ] in
     rw (no_leading_zero (length (decimal n)) (get_or (decimal n) 0 0) numeral.0.0 alone, read_all 0 (decimal n) numeral.0.1, numeral.1)
-        (between_found least most n low high)
+    (between_found least most n low high)
 
 -- the number that a word spells is within its limits
 pub number_in_range : (least most : ℕ) (word : List ℕ) (n : ℕ) → number_between least most word ≡ Some n → (least ≤ n) × (n ≤ most)

@@ -58,8 +58,8 @@ rising_is_one (x ∷ xs) (y ∷ ys) first second there back =
     let back_too = subst (λ (z : ℕ). (n : ℕ) → Contains (z ∷ ys) n → Contains (x ∷ xs) n) (sym same) back in
     let second_too = subst (λ (z : ℕ). IsStrictlyIncreasing (z ∷ ys)) (sym same) second in
     let rest =
-        rising_is_one xs ys (rising_tail x xs first) (rising_tail y ys second) (behind_first x xs ys first there_too)
-        (behind_first x ys xs second_too back_too) in
+    rising_is_one xs ys (rising_tail x xs first) (rising_tail y ys second) (behind_first x xs ys first there_too)
+    (behind_first x ys xs second_too back_too) in
     cc
 
 -- ---- what is loaded
@@ -68,7 +68,7 @@ held_is_one : (hold : Bool) (m : Map) (held other : List ℕ) → AreHeldBeside 
 held_is_one false m held other first second = first.1 ∙ sym second.1
 held_is_one true m held other first second =
     rising_is_one held other first.rising second.rising (λ n has. (second.all n).1 ((first.all n).0 has))
-        (λ n has. (first.all n).1 ((second.all n).0 has))
+    (λ n has. (first.all n).1 ((second.all n).0 has))
 
 -- two loadings of a text
 pub record SameLoading (t u : TopologyRead) (held other : List ℕ) : Type 0 where

@@ -56,7 +56,7 @@ not_off_before w places k l before first second =
     let taken = length-take-le l places (omega (arith, last)) in
     let stays = All-get_or (StaysOnGrid w) (take l places) k first.place (omega (arith, taken, before)) second.before in
     let is : get_or (take l places) k first.place ≡ first.place = get_or-take l places k first.place before
-        ∙ get_or_from_slice_get places k first.place first.place first.there in
+    ∙ get_or_from_slice_get places k first.place first.place first.there in
     first.off (subst (StaysOnGrid w) is stays)
 
 first_off_is_one : (w : Scales) (places : List Place) (k l : ℕ) → IsFirstOff w places k → IsFirstOff w places l → k ≡ l

@@ -103,14 +103,14 @@ word_is_one : (s : ScanView) (e f : Extent) (word other : List ℕ) → e ≡ f 
 word_is_one s e f word other same first second =
     let here = subst (λ (x : Extent). SpellsText s x other) (sym same) second in
     let pieces =
-        pieces_are_one first.pieces here.pieces first.are_pieces here.are_pieces (ap (drop 1) (sym first.spelled ∙ here.spelled)) in
+    pieces_are_one first.pieces here.pieces first.are_pieces here.are_pieces (ap (drop 1) (sym first.spelled ∙ here.spelled)) in
     sym first.value ∙ ap symbols pieces ∙ here.value
 
 whole_is_one : (s : ScanView) (e f : Extent) (whole other : Whole) → e ≡ f → SpellsNumber s e whole → SpellsNumber s f other → whole ≡ other
 whole_is_one s e f whole other same first second =
     let here = subst (λ (x : Extent). SpellsNumber s x other) (sym same) second in
     sym first.value ∙ sym (whole-law first.form first.is_number) ∙ ap read_whole (sym first.spelled ∙ here.spelled)
-        ∙ whole-law here.form here.is_number ∙ here.value
+    ∙ whole-law here.form here.is_number ∙ here.value
 
 mutual
   pub tree_is_one : (s : ScanView) (k : ℕ) (t u : Tree) → NodeIs s k t → NodeIs s k u → t ≡ u

@@ -86,7 +86,7 @@ verdict_is_one options bound read v w (IsRefuted t reason after judged is) (IsCo
     absurd (no_is_not_yes reason (judged_for_once options bound read.file read.cert t u (No reason) Yes after chains judged again).verdict)
 verdict_is_one options bound read v w (IsCompared t after judged found) (IsRefuted u other chains again too) =
     absurd (no_is_not_yes other (sym (judged_for_once options bound read.file read.cert t u Yes
-        (No other) after chains judged again).verdict))
+    (No other) after chains judged again).verdict))
 verdict_is_one options bound read v w (IsCompared t after judged found) (IsCompared u chains again other) =
     let same = judged_for_once options bound read.file read.cert u t Yes Yes chains after again judged in
     let expected = text_with read.file t (map_now t.map after) in

@@ -39,15 +39,15 @@ judged_for_once options bound text cert t u v w here there first second =
     let d = demand (version_of options) bound (scales_of options.weights) in
     let same = loaded_is_one options text t u first.held second.held first.loaded second.loaded in
     let says =
-        have_one_content first.content second.content first.is_content.certificate second.is_content.certificate
-        (first.is_content.text ∙ sym second.is_content.text) in
+    have_one_content first.content second.content first.is_content.certificate second.is_content.certificate
+    (first.is_content.text ∙ sym second.is_content.text) in
     let chains = subst (λ (x : TopologyRead). AreChainsIn x.map second.refs) (sym same.topology) second.chains in
     let refs = chains_lie_once t.map first.refs second.refs first.chains chains in
     let by_map =
-        subst (λ (x : TopologyRead). IsJudged d second.held (work_of x.map second.refs) second.content w there)
-        (sym same.topology) second.judged in
+    subst (λ (x : TopologyRead). IsJudged d second.held (work_of x.map second.refs) second.content w there)
+    (sym same.topology) second.judged in
     let by_held =
-        subst (λ (arcs : List ℕ). IsJudged d arcs (work_of t.map second.refs) second.content w there) (sym same.held_arcs) by_map in
+    subst (λ (arcs : List ℕ). IsJudged d arcs (work_of t.map second.refs) second.content w there) (sym same.held_arcs) by_map in
     let by_refs = subst (λ (rs : List ChainRef). IsJudged d first.held (work_of t.map rs) second.content w there) (sym refs) by_held in
     let by_content = subst (λ (c : Content). IsJudged d first.held (work_of t.map first.refs) c w there) (sym says) by_refs in
     let once = judged_once d first.held (work_of t.map first.refs) first.content v w here there first.judged by_content in
@@ -77,7 +77,7 @@ only_yes : (options : Options) (bound : ℤ) (read : Read) (v : Verdict) → Are
 only_yes options bound read v weights is_bound simplified certified (NotCertificate t held loaded none is) =
     let by = certified in
     absurd (none (content (version_of options) bound (scales_of options.weights) by.held by.records)
-        (run_is_certified options bound read.file by.topology by.held by.after by.records weights is_bound by.run) (sym by.written))
+    (run_is_certified options bound read.file by.topology by.held by.after by.records weights is_bound by.run) (sym by.written))
 only_yes options bound read v weights is_bound simplified certified (IsRefuted t reason after judged is) =
     let yes = certified_yes options bound read.file read.cert certified weights is_bound in
     let same = judged_for_once options bound read.file read.cert t certified.topology (No reason) Yes after yes.chains judged yes.judged in

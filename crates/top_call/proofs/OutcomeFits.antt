@@ -25,7 +25,7 @@ numbers_below : (n : ℕ) (numbers : List ℕ) → 0 < n → IsStrictlyIncreasin
     → (k d : ℕ) → k < length numbers → get_or numbers k d < n
 numbers_below n numbers some rising last k d below =
     let up : get_or numbers k 0 ≤ get_or numbers (length numbers - 1) 0 =
-        rising_order numbers rising k (length numbers - 1) (omega arith) (omega arith) in
+    rising_order numbers rising k (length numbers - 1) (omega arith) (omega arith) in
     let top : get_or numbers (length numbers - 1) 0 ≡ n - 1 = last in
     let same : get_or numbers k d ≡ get_or numbers k 0 = get_or_default numbers k d 0 below in
     omega arith
@@ -57,11 +57,11 @@ thinned_stands Near before after numbers was is thinned =
       last =
           ap (λ (n : ℕ). slice_get after (n - 1)) size
           ∙ left_place before after numbers (length numbers - 1) (length before - 1) thinned.places (omega arith) thinned.last
-              (omega arith);
+          (omega arith);
       places =
           subst (λ (ps : List Place). All (Contains before) ps) (sym thinned.places)
           (All-map (Contains before) (place_at before) numbers (λ k d inside.
-              Contains-get_or before (get_or numbers k d) nowhere (below k d inside)));
+          Contains-get_or before (get_or numbers k d) nowhere (below k d inside)));
       short = omega arith;
     }
 

@@ -111,7 +111,7 @@ pub headline : (words : List (List ℕ)) (texts : Texts) (tells : Bool) (before 
     → Settles (IsAnswer words texts) tells before now s → IsTrue tells → Headline words texts before now s
 headline words texts tells before now s settled told options bound file text bytes is_form is_text is_done wrote =
     done_words words texts tells before now s (Simplify options bound file) file text bytes
-        (IsFaithful options bound text bytes) settled told is_form
+    (IsFaithful options bound text bytes) settled told is_form
     refl is_text is_done wrote (λ read a same done is work.
     let written = map_wrote options read.file (IsSimplified options bound read.file) bytes a done is work in
     simplified_is_faithful options bound text bytes (subst (λ (xs : List ℕ). IsSimplified options bound xs bytes) same written))
@@ -185,10 +185,10 @@ ready_work : (options : Options) (file : List ℕ) (f : Form) (texts : Texts) (a
     → IsFormAnswer f texts a → a.status ≡ Done
 ready_work options file f texts a names ready works (NotHeld none e) =
     absurd (none_unheld texts ((File, file) ∷ []) (file_within options texts file ready, tt)
-        (subst (λ (ns : List Named). IsFirstUnheld texts ns) names none))
+    (subst (λ (ns : List Named). IsFirstUnheld texts ns) names none))
 ready_work options file f texts a names ready works (TooLong role past e) =
     absurd (none_past texts ((File, file) ∷ []) role (file_within options texts file ready, tt)
-        (subst (λ (ns : List Named). IsFirstPast texts ns role) names past))
+    (subst (λ (ns : List Named). IsFirstPast texts ns role) names past))
 ready_work options file f texts a names ready works (Worked read are short work) =
     let here = subst (λ (ns : List Named). AreRead texts ns read) names are in
     works read (same_Some ready.text read.file (sym ready.is_held ∙ here.0)) work
@@ -200,7 +200,7 @@ ready_answer : (options : Options) (file : List ℕ) (W : List ℕ → List ℕ 
 ready_answer options file W f texts a names works ready is =
     ready_work options file f texts a names ready (λ read same work.
     map_done options read.file (W read.file) ready.topology ready.held a
-        (subst (λ (xs : List ℕ). IsLoaded options xs ready.topology ready.held) same ready.loaded) (works read work)) is
+    (subst (λ (xs : List ℕ). IsLoaded options xs ready.topology ready.held) same ready.loaded) (works read work)) is
 
 -- a text that has the polygons is dissolved
 border_done : (polygons text : List ℕ) (t : TopologyRead) (held : List ℕ) (a : Answer) → IsLoaded plain text t held
@@ -217,7 +217,7 @@ polygons_done polygons file texts a has is =
     let ready = has.ready in
     ready_work plain file (Dissolve polygons file) texts a refl ready (λ read same work.
     border_done polygons read.file ready.topology ready.held a (subst
-        (λ (xs : List ℕ). IsLoaded plain xs ready.topology ready.held) same ready.loaded)
+    (λ (xs : List ℕ). IsLoaded plain xs ready.topology ready.held) same ready.loaded)
     (all_there (length ready.topology.map.polygons) polygons has.known) work) is
 
 form_done : (f : Form) (texts : Texts) (a : Answer) → CanWork f texts → IsFormAnswer f texts a → a.status ≡ Done

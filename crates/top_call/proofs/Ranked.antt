@@ -16,7 +16,7 @@ use Rattle.top_call.proofs.OneTree.{text_has_one_topology}
 ranks_text_is_one : (m : Map) (bounds : List ℤ) (x y : List ℕ) → IsRanksText m bounds x → IsRanksText m bounds y → x ≡ y
 ranks_text_is_one m bounds x y first second =
     first.written ∙ ap (ranks_text bounds) (ranks_are_one m bounds first.ranks second.ranks first.are_ranks second.are_ranks)
-        ∙ sym second.written
+    ∙ sym second.written
 
 pub ranked_is_one : (bounds text x y : List ℕ) → IsRanked bounds text x → IsRanked bounds text y → x ≡ y
 ranked_is_one bounds text x y first second =

@@ -18,7 +18,7 @@ simplified_reads_back options bound text bytes is =
     let were = (read_map_is_map text is.topology has).arcs in
     let fits = outcome_fits is.topology.map (terms_of options bound is.held) is.after is.records were is.run.outcome in
     let json : IsJson 64 text (document_nodes scanned.document) scanned.document =
-        subst (λ (ns : List Node). IsJson 64 text ns scanned.document) scanned.json.its_nodes scanned.json in
+    subst (λ (ns : List Node). IsJson 64 text ns scanned.document) scanned.json.its_nodes scanned.json in
     let topology : topology_of (document_tree scanned.document) ≡ Ok is.topology = ap topology_of (sym scanned.is) ∙ has.reads in
     record {
       reads = subst (λ (l : List ℕ). ReadsAs l is.after) (sym is.written)

@@ -22,12 +22,12 @@ map_is_read : (coded : Bool) (arcs : List (List Place)) (t : Tree) (members : En
     → map_of coded arcs t members ≡ Ok m → IsMap m
 map_is_read coded arcs t members m are h =
     let found =
-        then-ok (required (codes "objects") t members) (λ objects.
-        and_then (objects_of arcs objects nothing_seen) (λ seen.
-        Ok (record { arcs = arcs; points = seen.points; polygons = seen.polygons; coded = coded }))) m h in
+    then-ok (required (codes "objects") t members) (λ objects.
+    and_then (objects_of arcs objects nothing_seen) (λ seen.
+    Ok (record { arcs = arcs; points = seen.points; polygons = seen.polygons; coded = coded }))) m h in
     let walked =
-        then-ok (objects_of arcs found.0 nothing_seen) (λ seen.
-        Ok (record { arcs = arcs; points = seen.points; polygons = seen.polygons; coded = coded })) m found.2 in
+    then-ok (objects_of arcs found.0 nothing_seen) (λ seen.
+    Ok (record { arcs = arcs; points = seen.points; polygons = seen.polygons; coded = coded })) m found.2 in
     let seen = walked.0 in
     let is = objects-keep arcs are.each found.0 nothing_seen seen (nothing-seen arcs) walked.1 in
     subst IsMap (same-ok (record { arcs = arcs; points = seen.points; polygons = seen.polygons; coded = coded }) m walked.2)
@@ -49,7 +49,7 @@ topology_is_read t members read h =
     let mapped = then-ok (map_of headed.0 arced.0 t members) _ read arced.2 in
     let same = same-ok (record { map = mapped.0; arcs_at = extent_of valued.0 }) read mapped.2 in
     subst (λ (r : TopologyRead). IsMap r.map) same (map_is_read headed.0 arced.0 t members mapped.0
-        (arcs_are_read headed.0 valued.0 arced.0 arced.1) mapped.1)
+    (arcs_are_read headed.0 valued.0 arced.0 arced.1) mapped.1)
 
 tree_is_read : (t : Tree) (read : TopologyRead) → topology_of t ≡ Ok read → IsMap read.map
 tree_is_read (ObjectAt e members) read h = topology_is_read (ObjectAt e members) members read h

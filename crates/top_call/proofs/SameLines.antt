@@ -57,7 +57,7 @@ lines_stay m n points polygons inside =
     ap (λ (ps : List Place). flat_map (line_of n) (range_with_len 0 (length ps))) points
     ∙ lines_agree (line_of n) (line_of m) 0 (length m.points) (λ k low high.
     line_stays m n k points polygons (λ polygon. inside (get_or m.points k nowhere) polygon
-        (Contains-get_or m.points k nowhere (omega (arith, high)))))
+    (Contains-get_or m.points k nowhere (omega (arith, high)))))
 
 pub outcome_keeps_lines : OutcomeKeepsLines
 outcome_keeps_lines m t after records was is =

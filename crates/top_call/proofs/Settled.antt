@@ -128,7 +128,7 @@ pub check_told : (options : Options) (bound : ℤ) (read : Read) (tells : Bool) 
     → Settles (IsCheckAnswer options bound read) tells before now result
 check_told options bound read tells before now v result checked replies =
     settled_with (IsCheckAnswer options bound read) tells before now (verdict_status v) (verdict_line v) result (Told v checked refl)
-        (is_written v) replies
+    (is_written v) replies
 
 pub check_refused : (options : Options) (bound : ℤ) (read : Read) (tells : Bool) (before now : List ℕ) (s : Status) → now ≡ before
     → IsMapStatus s → IsRefused options read.file s → Settles (IsCheckAnswer options bound read) tells before now s

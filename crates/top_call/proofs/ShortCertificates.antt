@@ -94,8 +94,8 @@ records_are_short t m w after k (r ∷ rs) records is_map lie runs read (inr run
     let of_edges = record_of_edges t m w k r one is_map (All-head (LiesInArc m) r rs lie) read.0 run.4 in
     let here = record_is_short (edge_count (chain_in m r)) one runs.0.edge runs.0.short of_edges in
     let later =
-        records_are_short t m (thinned_work w k one.kept) after (suc k) rs run.2 is_map
-        (All-tail (LiesInArc m) r rs lie) runs.1 left run.5 in
+    records_are_short t m (thinned_work w k one.kept) after (suc k) rs run.2 is_map
+    (All-tail (LiesInArc m) r rs lie) runs.1 left run.5 in
     omega (
       arith,
       here,
@@ -116,8 +116,8 @@ outcome_is_short : (t : Terms) (m after : Map) (records : List Record) → IsMap
 outcome_is_short t m after records is outcome =
     let chains = map (chain_in m) outcome.refs in
     let short =
-        records_are_short t m (work_of m outcome.refs) outcome.last 0 outcome.refs records is outcome.chains.lie
-        (runs_of_arcs 0 m.arcs chains outcome.chains.cut) (left_as_read m chains 0 outcome.refs refl) outcome.replaced in
+    records_are_short t m (work_of m outcome.refs) outcome.last 0 outcome.refs records is outcome.chains.lie
+    (runs_of_arcs 0 m.arcs chains outcome.chains.cut) (left_as_read m chains 0 outcome.refs refl) outcome.replaced in
     omega (arith, short, edges_of_arcs 0 m.arcs chains is.arcs outcome.chains.cut, is.few_positions)
 
 pub certified_is_short : (options : Options) (bound : ℤ) (text bytes : List ℕ) → AreWeights options.weights → IsBound bound
@@ -134,5 +134,11 @@ certified_is_short options bound text bytes weights is_bound is =
       up = limits.up_high;
       held = λ k d within. omega (arith, held_are_arcs options.hold m is.held is.run.loaded.beside k d within, is_map.few_arcs);
     }) in
-    omega (arith, ap length is.written, parts, few, outcome_is_short
-        (terms_of options bound is.held) m is.after is.records is_map is.run.outcome)
+    omega (
+      arith,
+      ap length is.written,
+      parts,
+      few,
+      outcome_is_short
+          (terms_of options bound is.held) m is.after is.records is_map is.run.outcome,
+    )

@@ -48,5 +48,11 @@ simplified_is_short options bound text bytes weights short is =
     let on : All (All IsOnGrid) is.after.arcs = λ arc d within at e inside. on_grid _ (stay arc d within at e inside) in
     let arcs = arcs_text_fits is.after are on (omega (arith, were.few_positions, fitting_is_less m is.after fits)) in
     let place = arcs_lie_in text is.topology loaded.topology in
-    omega (arith, ap length is.written, spliced_fits text (arcs_text_of is.after) is.topology.arcs_at.start is.topology.arcs_at.end
-        place.forwards place.within, arcs, short)
+    omega (
+      arith,
+      ap length is.written,
+      spliced_fits text (arcs_text_of is.after) is.topology.arcs_at.start is.topology.arcs_at.end
+          place.forwards place.within,
+      arcs,
+      short,
+    )

@@ -65,7 +65,7 @@ differences_are_short p [] from on = All-nil IsShort
 differences_are_short p (q ∷ qs) from on =
     let here = All-head IsOnGrid q qs on in
     All-cons IsShort (difference p q) (differences q qs) (way_is_short p q from here)
-        (differences_are_short q qs here (All-tail IsOnGrid q qs on))
+    (differences_are_short q qs here (All-tail IsOnGrid q qs on))
 
 coded_are_short : (coded : Bool) (p : Place) (qs : List Place) → IsOnGrid p → All IsOnGrid qs → All IsShort (coded_positions coded p qs)
 coded_are_short true p qs from on = differences_are_short p qs from on
@@ -99,8 +99,13 @@ arc_with : (coded : Bool) (p : Place) (qs : List Place) → IsOnGrid p → All I
     → length (list_text (map position_text (p ∷ coded_positions coded p qs))) ≤ 27 + 26 * length qs
 arc_with coded p qs from on =
     let all = All-cons IsShort p (coded_positions coded p qs) (place_is_short p from) (coded_are_short coded p qs from on) in
-    omega (arith, further_positions (p ∷ coded_positions coded p qs) all, coded_count coded p qs, list_is (position_text p)
-        (map position_text (coded_positions coded p qs)))
+    omega (
+      arith,
+      further_positions (p ∷ coded_positions coded p qs) all,
+      coded_count coded p qs,
+      list_is (position_text p)
+          (map position_text (coded_positions coded p qs)),
+    )
 
 arc_fits : (coded : Bool) (ps : List Place) → IsArc ps → All IsOnGrid ps → length (arc_text coded ps) ≤ 53 * length ps
 arc_fits coded [] is on = absurd is

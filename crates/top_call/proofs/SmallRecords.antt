@@ -58,7 +58,7 @@ record_is_small t m w k r one is_map lies read is =
     let start : one.«from» ≡ r.«from» = is.«from» ∙ ap (λ (c : Chain). c.first.at) read in
     let long : length (arc_at m r.arc) ≤ 2 ^ 20 = omega (arith, get_or-le-sum_by length m.arcs r.arc [] lies.arc, is_map.few_positions) in
     let size : last_of w k ≡ r.to - r.«from» = ap (λ (c : Chain). length c.rest) read
-        ∙ length-map-range_with_len (vertex_in m r.arc) (r.«from» + 1) (r.to - r.«from») in
+    ∙ length-map-range_with_len (vertex_in m r.arc) (r.«from» + 1) (r.to - r.«from») in
     let small : last_of w k < 2 ^ 32 = omega (arith, size, lies.within, long) in
     record {
       arc = omega (arith, arc, lies.arc, is_map.few_arcs);
@@ -79,7 +79,7 @@ records_are_small t m w after k (r ∷ rs) records is_map lie read (inr run) =
     let left = later_as_read m w.chains k (suc k) (vertices_at (chain_at w.chains k) (drop 1 one.kept)) rs (omega arith) read.1 in
     let here = record_is_small t m w k r one is_map (All-head (LiesInArc m) r rs lie) read.0 run.4 in
     let later =
-        records_are_small t m (thinned_work w k one.kept) after (suc k) rs run.2 is_map (All-tail (LiesInArc m) r rs lie) left run.5 in
+    records_are_small t m (thinned_work w k one.kept) after (suc k) rs run.2 is_map (All-tail (LiesInArc m) r rs lie) left run.5 in
     subst (All IsRecord) (sym run.3) (All-cons IsRecord one run.2 here later)
 
 pub run_is_certified : (options : Options) (bound : ℤ) (text : List ℕ) (t : TopologyRead) (held : List ℕ) (after : Map)

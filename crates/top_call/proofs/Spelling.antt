@@ -117,15 +117,15 @@ named_made : (task : Task) (options : Options) (bound : ℤ) (names : List (List
 named_made tasks.Simplify options bound (file ∷ []) f w b e =
     let parts = kept (is_name file) (Some (Simplify options bound file)) f e in
     subst (λ (g : Form). IsSpelled (codes "simplify" ∷ (options_words options ++ digits bound ∷ file ∷ [])) g) (same_Some _ _ parts.1)
-        (record { spelled = refl; limits = (w, b, parts.0) })
+    (record { spelled = refl; limits = (w, b, parts.0) })
 named_made tasks.Layers options bound (file ∷ []) f w b e =
     let parts = kept (is_name file) (Some (Layers options bound file)) f e in
     subst (λ (g : Form). IsSpelled (codes "layers" ∷ (options_words options ++ digits bound ∷ file ∷ [])) g) (same_Some _ _ parts.1)
-        (record { spelled = refl; limits = (w, b, parts.0) })
+    (record { spelled = refl; limits = (w, b, parts.0) })
 named_made tasks.Check options bound (file ∷ out ∷ cert ∷ []) f w b e =
     let parts = kept (are_names file out cert) (Some (Check options bound file out cert)) f e in
     subst (λ (g : Form). IsSpelled (codes "check" ∷ (options_words options ++ digits bound ∷ file ∷ out ∷ cert ∷ [])) g)
-        (same_Some _ _ parts.1) (record { spelled = refl; limits = (w, b, parts.0) })
+    (same_Some _ _ parts.1) (record { spelled = refl; limits = (w, b, parts.0) })
 named_made tasks.Simplify options bound [] f w b e = absurd (none-some f e)
 named_made tasks.Simplify options bound (a ∷ c ∷ names) f w b e = absurd (none-some f e)
 named_made tasks.Layers options bound [] f w b e = absurd (none-some f e)
@@ -149,7 +149,7 @@ weighed_made task hold [] f e = absurd (none-some f e)
 weighed_made task hold (wx ∷ []) f e = absurd (none-some f e)
 weighed_made task hold (wx ∷ wy ∷ words) f e =
     option_and_then_some (λ (w : Scales). bounded_form task (record { hold = hold; weights = Some w }) words)
-        (weights_of wx wy) f e λ w w_is e_w.
+    (weights_of wx wy) f e λ w w_is e_w.
     let made = weights_made wx wy w w_is in
     let rest = bounded_made task (record { hold = hold; weights = Some w }) words f made.weights e_w in
     rw (made.across, made.up) (behind task hold (codes "--weights" ∷ digits w.x ∷ digits w.y ∷ []) words f rest)
@@ -196,10 +196,14 @@ make_made (r ∷ c ∷ s ∷ []) f e =
     option_and_then_some _ (number_between 1 100 r) f e λ x x_is e_x.
     option_and_then_some _ (number_between 1 100 c) f e_x λ y y_is e_y.
     option_and_then_some _ (number_between 0 65536 s) f e_y λ z z_is e_z.
-    rw (number_spelled 1 100 r x (omega arith) x_is, number_spelled 1 100 c y (omega arith) y_is, number_spelled 0 65536 s z
-        (omega arith) z_is)
+    rw (
+      number_spelled 1 100 r x (omega arith) x_is,
+      number_spelled 1 100 c y (omega arith) y_is,
+      number_spelled 0 65536 s z
+          (omega arith) z_is,
+    )
     (subst (λ (g : Form). IsSpelled (codes "make" ∷ decimal x ∷ decimal y ∷ decimal z ∷ []) g) (same_Some _ _ e_z)
-        (record { spelled = refl; limits = makeable r c s x y z x_is y_is z_is }))
+    (record { spelled = refl; limits = makeable r c s x y z x_is y_is z_is }))
 make_made (r ∷ c ∷ s ∷ t ∷ words) f e = absurd (none-some f e)
 
 demo_made : (words : List (List ℕ)) (f : Form) → demo_form words ≡ Some f → IsSpelled (codes "demo" ∷ words) f
@@ -213,10 +217,15 @@ demo_made (r ∷ c ∷ s ∷ b ∷ []) f e =
     option_and_then_some _ (number_between 0 65536 s) f e_y λ z z_is e_z.
     option_and_then_some _ (bound_of b) f e_z λ u u_is e_u.
     let bound = bound_made b u u_is in
-    rw (number_spelled 1 100 r x (omega arith) x_is, number_spelled 1 100 c y (omega arith) y_is, number_spelled 0 65536 s z
-        (omega arith) z_is, bound.0)
+    rw (
+      number_spelled 1 100 r x (omega arith) x_is,
+      number_spelled 1 100 c y (omega arith) y_is,
+      number_spelled 0 65536 s z
+          (omega arith) z_is,
+      bound.0,
+    )
     (subst (λ (g : Form). IsSpelled (codes "demo" ∷ decimal x ∷ decimal y ∷ decimal z ∷ digits u ∷ []) g) (same_Some _ _ e_u)
-        (record { spelled = refl; limits = (makeable r c s x y z x_is y_is z_is, bound.1) }))
+    (record { spelled = refl; limits = (makeable r c s x y z x_is y_is z_is, bound.1) }))
 demo_made (r ∷ c ∷ s ∷ b ∷ t ∷ words) f e = absurd (none-some f e)
 
 dissolve_made : (words : List (List ℕ)) (f : Form) → dissolve_form words ≡ Some f → IsSpelled (codes "dissolve" ∷ words) f
@@ -288,7 +297,7 @@ task_found task true None bound names w b =
     rw (not_word bound (codes "--weights") b refl) (bounded_found task (record { hold = true; weights = None }) bound names b)
 task_found task false None bound names w b =
     rw (not_word bound (codes "--hold") b refl, not_word bound (codes "--weights") b refl)
-        (bounded_found task (record { hold = false; weights = None }) bound names b)
+    (bounded_found task (record { hold = false; weights = None }) bound names b)
 task_found task true (Some s) bound names w b =
     rw (weights_found s w) (bounded_found task (record { hold = true; weights = Some s }) bound names b)
 task_found task false (Some s) bound names w b =

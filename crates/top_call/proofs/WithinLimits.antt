@@ -62,11 +62,23 @@ held_are_listed true m held few beside =
 version_fits : (hold : Bool) (weights : Option Scales) (m : Map) (held : List ℕ) → AreHeldBeside hold m held
     → IsVersion (version_by hold weights) (unsigned_abs (scales_of weights).x) (unsigned_abs (scales_of weights).y) held
 version_fits hold (Some w) m held beside =
-    record { least = omega arith; greatest = omega arith; no_held = λ one. absurd (omega arith); even_across = λ small.
-        absurd (omega arith); even_up = λ small. absurd (omega arith) }
+    record {
+      least = omega arith;
+      greatest = omega arith;
+      no_held = λ one. absurd (omega arith);
+      even_across = λ small.
+          absurd (omega arith);
+      even_up = λ small. absurd (omega arith);
+    }
 version_fits true None m held beside =
-    record { least = omega arith; greatest = omega arith; no_held = λ one. absurd (omega arith); even_across = λ small. refl; even_up =
-        λ small. refl }
+    record {
+      least = omega arith;
+      greatest = omega arith;
+      no_held = λ one. absurd (omega arith);
+      even_across = λ small. refl;
+      even_up =
+          λ small. refl;
+    }
 version_fits false None m held beside =
     record { least = omega arith; greatest = omega arith; no_held = λ one. beside.1; even_across = λ small. refl; even_up = λ small. refl }
 
@@ -106,8 +118,14 @@ outcome_has_few : (m : Map) (t : Terms) (after : Map) (records : List Record) �
     → length records ≤ 2 ^ 20
 outcome_has_few m t after records is outcome =
     let count = count_of_arcs 0 m.arcs (map (chain_in m) outcome.refs) outcome.chains.cut in
-    omega (arith, records_few t (work_of m outcome.refs) 0 (length outcome.refs) records outcome.last outcome.replaced, count, length-map
-        outcome.refs (chain_in m), is.few_positions)
+    omega (
+      arith,
+      records_few t (work_of m outcome.refs) 0 (length outcome.refs) records outcome.last outcome.replaced,
+      count,
+      length-map
+          outcome.refs (chain_in m),
+      is.few_positions,
+    )
 
 -- ---- all of it
 

@@ -19,7 +19,7 @@ piece_written before now next whole rest piece left so_far cut more = record {
 pub all_written : (before now whole rest : List ℕ) → IsPartWritten before now whole rest → rest ≡ [] → now ≡ before ++ whole
 all_written before now whole rest so_far none =
     so_far.written ∙ ap (λ (xs : List ℕ). before ++ xs)
-        (sym (so_far.split ∙ ap (λ (xs : List ℕ). so_far.front ++ xs) none ∙ append-nil so_far.front))
+    (sym (so_far.split ∙ ap (λ (xs : List ℕ). so_far.front ++ xs) none ∙ append-nil so_far.front))
 
 take_behind : (xs ys : List ℕ) (n : ℕ) → take (length xs + n) (xs ++ ys) ≡ xs ++ take n ys
 take_behind [] ys n = ap (λ (k : ℕ). take k ys) (omega arith)
@@ -49,7 +49,7 @@ line_added before now next whole lines line kept rest left so_far cut step =
     let front = so_far.front in
     let piece = step.front in
     let grouped : lines ++ rest ≡ (piece ++ kept) ++ left = ap (λ (xs : List ℕ). lines ++ xs) cut ∙ sym (append_assoc lines line left)
-        ∙ ap (λ (xs : List ℕ). xs ++ left) step.split in
+    ∙ ap (λ (xs : List ℕ). xs ++ left) step.split in
     record {
       front = front ++ piece;
       written = step.written ∙ ap (λ (xs : List ℕ). xs ++ piece) so_far.written ∙ append_assoc before front piece;
@@ -62,7 +62,7 @@ pub line_failed : (before now next whole lines line rest left : List ℕ) → Is
     → rest ≡ line ++ left → AppendsPrefix now next (lines ++ line) → AppendsPrefix before next whole
 line_failed before now next whole lines line rest left so_far cut some =
     piece_failed before now next whole (lines ++ rest) (lines ++ line) left so_far
-        (ap (λ (xs : List ℕ). lines ++ xs) cut ∙ sym (append_assoc lines line left)) some
+    (ap (λ (xs : List ℕ). lines ++ xs) cut ∙ sym (append_assoc lines line left)) some
 
 -- the line was gathered
 pub line_gathered : (now lines line kept : List ℕ) → kept ≡ lines ++ line → IsPartWritten now now (lines ++ line) kept
@@ -72,8 +72,12 @@ line_gathered now lines line kept is = record { front = []; written = sym (appen
 pub lines_written : (now next lines line kept : List ℕ) → next ≡ (now ++ lines) ++ line → kept ≡ []
     → IsPartWritten now next (lines ++ line) kept
 lines_written now next lines line kept is none =
-    record { front = lines ++ line; written = is ∙ append_assoc now lines line; split = sym (append-nil (lines ++ line))
-        ∙ ap (λ (xs : List ℕ). (lines ++ line) ++ xs) (sym none) }
+    record {
+      front = lines ++ line;
+      written = is ∙ append_assoc now lines line;
+      split = sym (append-nil (lines ++ line))
+          ∙ ap (λ (xs : List ℕ). (lines ++ line) ++ xs) (sym none);
+    }
 
 -- a prefix of the first bytes is one of these and more
 pub prefix_of_more : (now next first second : List ℕ) → AppendsPrefix now next first → AppendsPrefix now next (first ++ second)

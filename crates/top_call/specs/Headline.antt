@@ -69,7 +69,7 @@ pub record IsFaithful (options : Options) (bound : ℤ) (text bytes : List ℕ) 
 abbrev pub Headline : List (List ℕ) → Texts → List ℕ → List ℕ → Status → Type 0
 Headline words texts before now result =
     (options : Options) (bound : ℤ) (file text bytes : List ℕ) → form_of words ≡ Some (Simplify options bound file)
-        → text_of texts file ≡ Some text → result ≡ Done → now ≡ before ++ bytes → IsFaithful options bound text bytes
+    → text_of texts file ≡ Some text → result ≡ Done → now ≡ before ++ bytes → IsFaithful options bound text bytes
 
 -- ---- which texts are worked on
 
@@ -137,7 +137,7 @@ pub record AreWrittenFor (options : Options) (bound : ℤ) (texts : Texts) (file
 abbrev pub ReachesYes : List (List ℕ) → Texts → Bool → List ℕ → List ℕ → Status → Type 0
 ReachesYes words texts tells before now result =
     (options : Options) (bound : ℤ) (file out cert : List ℕ) → form_of words ≡ Some (Check options bound file out cert)
-        → AreWrittenFor options bound texts file out cert → Finishes tells before now (verdict_line Yes) result
+    → AreWrittenFor options bound texts file out cert → Finishes tells before now (verdict_line Yes) result
 
 -- OUT is held, is what `simplify` answers to FILE, and is no longer than FILE may be
 pub record IsWrittenFor (options : Options) (bound : ℤ) (texts : Texts) (file out : List ℕ) : Type 0 where
@@ -159,7 +159,7 @@ pub record FacesAlike (options : Options) (texts : Texts) (file : List ℕ) (tel
 abbrev pub KeepsLines : List (List ℕ) → Texts → Bool → List ℕ → List ℕ → Status → Type 0
 KeepsLines words texts tells before now result =
     (options : Options) (bound : ℤ) (file out : List ℕ) → form_of words ≡ Some (Faces out) → IsWrittenFor options bound texts file out
-        → FacesAlike options texts file tells before now result
+    → FacesAlike options texts file tells before now result
 
 -- ---- what is written of polygons that are dissolved
 
@@ -187,7 +187,7 @@ pub record IsBorderOf (polygons text bytes : List ℕ) : Type 0 where
 abbrev pub Borders : List (List ℕ) → Texts → List ℕ → List ℕ → Status → Type 0
 Borders words texts before now result =
     (polygons file text bytes : List ℕ) → form_of words ≡ Some (Dissolve polygons file) → text_of texts file ≡ Some text → result ≡ Done
-        → now ≡ before ++ bytes → IsBorderOf polygons text bytes
+    → now ≡ before ++ bytes → IsBorderOf polygons text bytes
 
 -- ---- what is written of levels
 

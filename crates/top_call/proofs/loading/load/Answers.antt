@@ -14,7 +14,7 @@ returns-in_err-topology-clause-refused c =
 pub returns-in-Some-clause-refused : goal.returns-in-Some-clause-refused
 returns-in-Some-clause-refused c =
     off_grid c.args.options.now c.args.text.now (topology_read c.in_ok-topology.topology) c.weights_of.result _ _
-        c.in_ok-topology.ensures.read c.weights_of.ensures
+    c.in_ok-topology.ensures.read c.weights_of.ensures
     (λ ones. none-some _ (sym (c.in-Some.ensures.ones ones))) c.in-Some.ensures.value
 
 pub returns-in_err-partly-clause-refused : goal.returns-in_err-partly-clause-refused
@@ -22,4 +22,4 @@ returns-in_err-partly-clause-refused c =
     let p = err_from_is_err_and c.from_residual-in_err-partly.result c.from_residual-in_err-partly.ensures.1 in
     rw (p.1, p.2) (unarranged c.args.options.now c.args.text.now (topology_read c.in_ok-topology.topology) _ c.in_ok-topology.ensures.read
     (stays_by c.args.options.now c.weights_of.result c.in_ok-topology.topology.map c.weights_of.ensures c.in_default.ensures.value)
-        c.in_err-partly.ensures.refused)
+    c.in_err-partly.ensures.refused)
