@@ -2,7 +2,6 @@
 #![tactic(auto)]
 
 mod entry;
-mod extent;
 mod indexed;
 mod laws;
 mod near;

@@ -5,7 +5,7 @@ ghost use Rattle.grid_exact.specs.Weights.{StaysOnGrid};
 ghost use Rattle.arc_map.specs.Chains.{chain_at, chain_places, IsClearIn};
 ghost use Rattle.map_index.specs.IndexedMap.{items_in};
 ghost use Rattle.layer_paths.specs.Bits.{HasBit};
-ghost use Rattle.side_wedge.specs.Flanks.{IsBeside};
+ghost use Rattle.side_wedge.specs.Flanks.{HoldsReach, IsBeside};
 ghost use Rattle.shortcut_graph.specs.Weighed.{AreWeighed};
 ghost use Rattle.chain_replace.specs.Run.{IsAllowedHere, IsAllowedIn, last_of};
 ghost use Rattle.chain_replace.specs.Finder.{AreAlike};
@@ -123,7 +123,7 @@ impl PathFinder {
     {
         let places = map.chain(k);
         let count = places.len();
-        self.beside.load(map, k);
+        self.beside.load(map, k, terms.weights, terms.bound);
         weigh(terms.weights, places, &mut self.xs, &mut self.ys);
         let ruler = Ruler {
             xs: &self.xs[..count],
@@ -150,6 +150,7 @@ fn fill_rows(
     requires chain { k < length map.now.chains }
     requires clear { IsClearIn map.now.chains map.now.read.points k }
     requires beside { IsBeside map.now.chains map.now.read.points k beside.now }
+    requires reach { HoldsReach map.now.chains map.now.read.points k ruler.now.weights ruler.now.bound beside.now }
     requires weighed { AreWeighed ruler.now.weights (chain_places (chain_at map.now.chains k)) ruler.now.xs.now ruler.now.ys.now }
     requires row { last_of map.now k + 1 ≤ length row.old }
     ensures pairs { AreAlike (HasBit rows.new) (IsAllowedHere ruler.now.bound ruler.now.weights map.now k) (last_of map.now k) }

@@ -76,8 +76,8 @@ filled_more Pair m before after start small same row filled =
 
 -- ---- what a bit tells
 
-pub told : (H E T N O A : Type 0) → H ↔ (E ⊎ (T × N)) → T ↔ O → (E ⊎ (O × N)) ↔ A → H ↔ A
-told H E T N O A bit opens allows = (
-  λ h. allows.0 (elim (bit.0 h) [ inl e ↦ inl e | inr g ↦ inr (opens.0 g.0, g.1) ]),
-  λ a. bit.1 (elim (allows.1 a) [ inl e ↦ inl e | inr g ↦ inr (opens.1 g.0, g.1) ]),
+pub told : (H E T N O A : Type 0) → H ↔ (E ⊎ (T × N)) → (O → T) → (T → N → O) → (E ⊎ (O × N)) ↔ A → H ↔ A
+told H E T N O A bit opens back allows = (
+  λ h. allows.0 (elim (bit.0 h) [ inl e ↦ inl e | inr g ↦ inr (back g.0 g.1, g.1) ]),
+  λ a. bit.1 (elim (allows.1 a) [ inl e ↦ inl e | inr g ↦ inr (opens g.0, g.1) ]),
 )

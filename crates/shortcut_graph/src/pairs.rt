@@ -1,11 +1,12 @@
 //! Rows of allowed pairs.
-ghost use Rattle.std.specs.Prelude.{◌≡◌, ◌≢◌, ◌⊎◌, ◌↔◌, ◌+◌, ◌<◌, ◌≤◌, ℕ, IsTrue, false, length, slice_index_or};
+ghost use Rattle.std.specs.Prelude.{◌≡◌, ◌≢◌, ◌⊎◌, ◌↔◌, ◌+◌, ◌<◌, ◌≤◌, ℕ, ℤ, IsTrue, false, length, slice_index_or};
 ghost use Rattle.lane_kernels.specs.Places.{AreCoordinates, place_at};
 ghost use Rattle.layer_paths.specs.Bits.{has_bit, HasBit};
 ghost use Rattle.arc_map.specs.Chains.{chain_at, chain_places, IsClearIn, IsWithinBound};
 ghost use Rattle.arc_map.specs.Paths.{IsAllowedPair};
 ghost use Rattle.error_cone.specs.Courses.{IsConeFrom, LetsNear};
-ghost use Rattle.side_wedge.specs.Flanks.{IsBeside};
+ghost use Rattle.grid_exact.specs.Weights.{Scales};
+ghost use Rattle.side_wedge.specs.Flanks.{HoldsReach, IsBeside, IsNearPair};
 ghost use Rattle.shortcut_graph.specs.Weighed.{AreWeighed, IsNearRun};
 ghost use Rattle.shortcut_graph.specs.Corridor.{IsCorridor};
 ghost use Rattle.shortcut_graph.specs.Doubles.{IsOpenPair};
@@ -19,9 +20,10 @@ use layer_paths::Rows;
 use map_index::IndexedMap;
 use side_wedge::Beside;
 
-/// Sets the bit (i, j) for each pair i < j of vertices of chain number `k` where the pair is allowed, and clears it where it is
-/// not. `beside` is what stands beside this chain, and the ruler has its coordinates. `row` is written over: it has a place for each
-/// vertex.
+/// Sets the bit (i, j) for each pair i < j of vertices of chain number `k` where the pair is
+/// allowed, and clears it where it is not. `beside` is what stands beside this chain, loaded with
+/// the ruler's weights and bound, and the ruler has the chain's coordinates. `row` is written over:
+/// it has a place for each vertex.
 pub fn fill(
     rows: &mut Rows,
     map: &IndexedMap,
@@ -33,6 +35,7 @@ pub fn fill(
     requires chain { k < length map.now.chains }
     requires clear { IsClearIn map.now.chains map.now.read.points k }
     requires beside { IsBeside map.now.chains map.now.read.points k beside.now }
+    requires reach { HoldsReach map.now.chains map.now.read.points k ruler.now.weights ruler.now.bound beside.now }
     requires weighed { AreWeighed ruler.now.weights (chain_places (chain_at map.now.chains k)) ruler.now.xs.now ruler.now.ys.now }
     requires row { length row.old ≡ length (chain_at map.now.chains k).rest + 1 }
     ensures { (i j : ℕ) → i < j → j ≤ length (chain_at map.now.chains k).rest
@@ -48,15 +51,18 @@ pub fn fill(
     }
 }
 
-// Writes to each place of `row` whether this vertex is past `start`, and nothing but the bound can stand against the pair of both.
+// Writes to each place of `row` past `start` whether nothing but the bound can stand against the
+// pair of both vertices. It is told of near pairs alone: others may be told true that are not open.
 fn mark_open(map: &IndexedMap, k: u32, beside: &Beside, start: usize, row: &mut [bool])
     requires chain { k < length map.now.chains }
     requires clear { IsClearIn map.now.chains map.now.read.points k }
     requires beside { IsBeside map.now.chains map.now.read.points k beside.now }
     requires start { start < length (chain_at map.now.chains k).rest }
     requires row { length row.old ≡ length (chain_at map.now.chains k).rest + 1 }
-    ensures { (j : ℕ) → IsTrue (slice_index_or row.new j false)
-        ↔ ((start < j) × (j < length row.new) × IsOpenPair map.now.chains map.now.read.points k start j) }
+    ensures opens { (j : ℕ) → start < j → j < length row.new → IsOpenPair map.now.chains map.now.read.points k start j → IsTrue (slice_index_or row.new j false) }
+    ensures near { (weights : Scales) (bound : ℤ) → HoldsReach map.now.chains map.now.read.points k weights bound beside.now
+        → (j : ℕ) → start < j → j < length row.new → IsTrue (slice_index_or row.new j false) → IsNearPair weights bound (chain_at map.now.chains k) start j → IsOpenPair map.now.chains map.now.read.points k start j }
+    ensures length { length row.new ≡ length row.old }
 {
     let last = map.chain(k).len() - 1;
     beside.consistent_from(map, k, start, row);
@@ -66,8 +72,8 @@ fn mark_open(map: &IndexedMap, k: u32, beside: &Beside, start: usize, row: &mut 
     }
 }
 
-// Whether the pair of `start` and `end`, which are no neighbours, is open and its run within the bound. The corridor from `start`
-// stands for the vertices between.
+// Whether the pair of `start` and `end`, which are no neighbours, is open and its run within the
+// bound. The corridor from `start` stands for the vertices between.
 fn allows(
     ruler: &Ruler<'_>,
     is_open: &[bool],
@@ -85,8 +91,9 @@ fn allows(
     is_open[end] && is_near(ruler, start, end, corridor)
 }
 
-// Sets the bits of row `start` for the next vertex, and for the open pairs whose run is within the bound; all others are clear. The
-// cone starts there. Once it is closed no later vertex is near, so that no later bit is set.
+// Sets the bits of row `start` for the next vertex, and for the open pairs whose run is within the
+// bound; all others are clear. The cone starts there. Once it is closed no later vertex is near, so
+// that no later bit is set.
 fn set_row(
     rows: &mut Rows,
     ruler: &Ruler<'_>,

@@ -1,5 +1,5 @@
 -- A pair of a clear chain is consistent exactly where what stands beside the edges between the two keeps its sides.
-use Rattle.std.proofs.Common.{◌≡◌, ◌↔◌, inl, inr, ℕ, ◌+◌, ◌-◌, ◌<◌, ◌≤◌, Bool, List, length, get_or, drop, pos, sym, ap, ◌∙◌, subst, add-one, arith}
+use Rattle.std.proofs.Common.{◌≡◌, ◌↔◌, inl, inr, ℕ, ◌+◌, ◌-◌, ◌<◌, ◌≤◌, Bool, List, length, get_or, drop, ℤ, pos, sym, ap, ◌∙◌, subst, add-one, arith}
 use Rattle.std.specs.List.{between}
 use Rattle.std.proofs.lemmas.List.{get_or-map, take-map, drop-map}
 use Rattle.std.proofs.lemmas.Slice.{between_is}
@@ -16,7 +16,10 @@ use Rattle.chain_side.proofs.Told.{way_of}
 use Rattle.lane_kernels.specs.declared.side.Hand.{Hand}
 use Rattle.lane_kernels.specs.Hands.{IsOnSide}
 use Rattle.side_wedge.specs.Obstacles.{IsObstacle, IsConsistentPair}
-use Rattle.side_wedge.specs.Flanks.{Flanks, StandsInRow, IsBesideEdge, IsBeside, row_of}
+use Rattle.grid_exact.specs.Weights.{Scales}
+use Rattle.chain_reach.specs.Reach.{IsInReachBy}
+use Rattle.chain_reach.proofs.Pairs.{only_reach_counts_of_chain}
+use Rattle.side_wedge.specs.Flanks.{Flanks, StandsInRow, IsBesideEdge, IsBeside, HoldsReach, IsNearPair, row_of}
 use Rattle.side_wedge.specs.Rows.{KeepsAll}
 use Rattle.side_wedge.specs.Strays.{RunsAlong}
 use Rattle.side_wedge.proofs.Spanning.{runs_by_number, before_later, after_earlier}
@@ -76,6 +79,10 @@ over_run frame rising chain i j s p hand runs ij within low high sp pt on = reco
   before = before_later frame rising chain p (s + 1) j runs (omega arith) within pt;
 }
 
+-- p is in reach of the chain number k
+abbrev InReach : List Chain → ℕ → Scales → ℤ → Place → Type 0
+InReach chains k weights bound p = IsInReachBy weights.x weights.y bound p (chain_at chains k).first.place (places (chain_at chains k).rest)
+
 -- ---- from consistent to sides
 
 keeps_by_consistent : (chains : List Chain) (points : List Place) (k : ℕ) (rising : Bool) (b : Flanks) (i j : ℕ) → IsClearChain chains points k rising b → i < j → j < length (chain_at chains k).rest + 1 → IsConsistentPair chains points k i j → KeepsAll b (chain_places (chain_at chains k)) i j
@@ -110,8 +117,8 @@ obstacle_hand chains points k rising b s p h obstacle within sp pt flat =
       | inr e ↦ not_itself frame rising p (vertex_at chain (s + 1)) (e ∙ sym second) pt
     ]
 
-over_edge_consistent : (chains : List Chain) (points : List Place) (k : ℕ) (rising : Bool) (b : Flanks) (i j s : ℕ) (p : Place) → IsClearChain chains points k rising b → IsObstacle chains points k p → KeepsAll b (chain_places (chain_at chains k)) i j → i < j → j < length (chain_at chains k).rest + 1 → i ≤ s → s < j → IsAlong (chain_at chains k).frame rising (vertex_at (chain_places (chain_at chains k)) s) p → IsAlong (chain_at chains k).frame rising p (vertex_at (chain_places (chain_at chains k)) (s + 1)) → IsConsistentAt (chain_places (chain_at chains k)) i j p
-over_edge_consistent chains points k rising b i j s p h obstacle keeps ij within low high sp pt =
+over_edge_consistent : (chains : List Chain) (points : List Place) (k : ℕ) (rising : Bool) (b : Flanks) (weights : Scales) (bound : ℤ) (i j s : ℕ) (p : Place) → IsClearChain chains points k rising b → HoldsReach chains points k weights bound b → InReach chains k weights bound p → IsObstacle chains points k p → KeepsAll b (chain_places (chain_at chains k)) i j → i < j → j < length (chain_at chains k).rest + 1 → i ≤ s → s < j → IsAlong (chain_at chains k).frame rising (vertex_at (chain_places (chain_at chains k)) s) p → IsAlong (chain_at chains k).frame rising p (vertex_at (chain_places (chain_at chains k)) (s + 1)) → IsConsistentAt (chain_places (chain_at chains k)) i j p
+over_edge_consistent chains points k rising b weights bound i j s p h holds reach obstacle keeps ij within low high sp pt =
     let frame = (chain_at chains k).frame in
     let chain = chain_places (chain_at chains k) in
     let size = length-chain_places (chain_at chains k) in
@@ -126,21 +133,21 @@ over_edge_consistent chains points k rising b i j s p h obstacle keeps ij within
         let run = over_run frame rising chain i j s p hand h.runs ij inside low high sp pt on in
         let beside : IsBesideEdge frame chain s hand p = record { spanned = over_spanned frame rising (vertex_at chain s) (vertex_at chain (s + 1)) p sp pt; aside = on } in
         consistent_by_hand frame rising (vertex_at chain i) (between (i + 1) j chain) (vertex_at chain j) p (vertex_at chain s) (vertex_at chain (s + 1)) hand run
-        (elim (h.is_beside.all s hand p (omega arith) obstacle beside) [
+        (elim (holds.all s hand p (omega arith) obstacle beside reach) [
           | inl stands ↦ keeps s low high hand p stands
           | inr beyond ↦ beyond_keeps_hand frame rising chain p s (s + 1) i j hand beyond (omega arith) (omega arith) (omega arith) inside sp pt run.past run.before on
         ])
 
-between_consistent : (chains : List Chain) (points : List Place) (k : ℕ) (rising : Bool) (b : Flanks) (i j : ℕ) (p : Place) → IsClearChain chains points k rising b → IsObstacle chains points k p → KeepsAll b (chain_places (chain_at chains k)) i j → i < j → j < length (chain_at chains k).rest + 1 → StandsBetween (chain_at chains k).frame rising (chain_places (chain_at chains k)) p i j → IsConsistentAt (chain_places (chain_at chains k)) i j p
-between_consistent chains points k rising b i j p h obstacle keeps ij within (OverEdge s low high sp pt) = over_edge_consistent chains points k rising b i j s p h obstacle keeps ij within low high sp pt
-between_consistent chains points k rising b i j p h obstacle keeps ij within (AtVertex s low high e) =
+between_consistent : (chains : List Chain) (points : List Place) (k : ℕ) (rising : Bool) (b : Flanks) (weights : Scales) (bound : ℤ) (i j : ℕ) (p : Place) → IsClearChain chains points k rising b → HoldsReach chains points k weights bound b → InReach chains k weights bound p → IsObstacle chains points k p → KeepsAll b (chain_places (chain_at chains k)) i j → i < j → j < length (chain_at chains k).rest + 1 → StandsBetween (chain_at chains k).frame rising (chain_places (chain_at chains k)) p i j → IsConsistentAt (chain_places (chain_at chains k)) i j p
+between_consistent chains points k rising b weights bound i j p h holds reach obstacle keeps ij within (OverEdge s low high sp pt) = over_edge_consistent chains points k rising b weights bound i j s p h holds reach obstacle keeps ij within low high sp pt
+between_consistent chains points k rising b weights bound i j p h holds reach obstacle keeps ij within (AtVertex s low high e) =
     let c = chain_at chains k in
     let number : s - 1 + 1 ≡ s = omega arith in
     let at : p ≡ (get_or c.rest (s - 1) c.first).place = e ∙ ap (vertex_at (chain_places c)) (sym number) ∙ later_place c (s - 1) (omega arith) in
     absurd (obstacle_at_vertex chains points k (s - 1) p c.first h.are_chains h.is_beside.edges h.clear obstacle (omega arith) at)
 
-obstacle_consistent : (chains : List Chain) (points : List Place) (k : ℕ) (rising : Bool) (b : Flanks) (i j : ℕ) (p : Place) → IsClearChain chains points k rising b → IsObstacle chains points k p → KeepsAll b (chain_places (chain_at chains k)) i j → i < j → j < length (chain_at chains k).rest + 1 → IsConsistentAt (chain_places (chain_at chains k)) i j p
-obstacle_consistent chains points k rising b i j p h obstacle keeps ij within =
+obstacle_consistent : (chains : List Chain) (points : List Place) (k : ℕ) (rising : Bool) (b : Flanks) (weights : Scales) (bound : ℤ) (i j : ℕ) (p : Place) → IsClearChain chains points k rising b → HoldsReach chains points k weights bound b → InReach chains k weights bound p → IsObstacle chains points k p → KeepsAll b (chain_places (chain_at chains k)) i j → i < j → j < length (chain_at chains k).rest + 1 → IsConsistentAt (chain_places (chain_at chains k)) i j p
+obstacle_consistent chains points k rising b weights bound i j p h holds reach obstacle keeps ij within =
     let frame = (chain_at chains k).frame in
     let chain = chain_places (chain_at chains k) in
     let size = length-chain_places (chain_at chains k) in
@@ -150,7 +157,7 @@ obstacle_consistent chains points k rising b i j p h obstacle keeps ij within =
       | There e ↦ AtStart e
       | Later past ↦
           elim (compared_along frame rising p (vertex_at chain j)) [
-            | Earlier before ↦ between_consistent chains points k rising b i j p h obstacle keeps ij within (stands_between frame rising chain p i j ij past before)
+            | Earlier before ↦ between_consistent chains points k rising b weights bound i j p h holds reach obstacle keeps ij within (stands_between frame rising chain p i j ij past before)
             | There e ↦ AtEnd e
             | Later behind ↦ behind_consistent frame rising (vertex_at chain i) (between (i + 1) j chain) (vertex_at chain j) p way behind
           ]
@@ -158,18 +165,24 @@ obstacle_consistent chains points k rising b i j p h obstacle keeps ij within =
 
 -- ---- both ways
 
-exactly_by : (chains : List Chain) (points : List Place) (k : ℕ) (rising : Bool) (b : Flanks) (i j : ℕ) → IsClearChain chains points k rising b → i < j → j < length (chain_at chains k).rest + 1 → KeepsAll b (chain_places (chain_at chains k)) i j ↔ IsConsistentPair chains points k i j
-exactly_by chains points k rising b i j h ij within = (
-  λ keeps p obstacle. (by_places (chain_at chains k) i j p ij within).0 (obstacle_consistent chains points k rising b i j p h obstacle keeps ij within),
-  λ pair. keeps_by_consistent chains points k rising b i j h ij within pair,
-)
-
--- The pair (i, j) of the chain number k is consistent exactly where what stands beside the edges from i to j keeps its sides.
-pub consistent_exactly : (chains : List Chain) (points : List Place) (k : ℕ) (b : Flanks) (i j : ℕ) → AreChains chains → IsClearIn chains points k → IsBeside chains points k b → i < j → j < length (chain_at chains k).rest + 1 → KeepsAll b (chain_places (chain_at chains k)) i j ↔ IsConsistentPair chains points k i j
-consistent_exactly chains points k b i j are clear beside ij within =
+clear_chain : (chains : List Chain) (points : List Place) (k : ℕ) (b : Flanks) → AreChains chains → IsClearIn chains points k → IsBeside chains points k b → (rising : Bool) × IsClearChain chains points k rising b
+clear_chain chains points k b are clear beside =
     let c = chain_at chains k in
     let way = way_of (chain_at chains k).frame (chain_at chains k).first.place (places (chain_at chains k).rest) (are.monotone k) in
-    exactly_by chains points k way.rising b i j (record { are_chains = are; clear = clear; is_beside = beside; runs = runs_by_number c.frame way.rising c.first.place (places c.rest) way.runs }) ij within
+    (way.rising, record { are_chains = are; clear = clear; is_beside = beside; runs = runs_by_number c.frame way.rising c.first.place (places c.rest) way.runs })
+
+-- Where the pair (i, j) of the chain number k is consistent, what stands beside the edges from i to j keeps its sides.
+pub keeps_sides : (chains : List Chain) (points : List Place) (k : ℕ) (b : Flanks) (i j : ℕ) → AreChains chains → IsClearIn chains points k → IsBeside chains points k b → i < j → j < length (chain_at chains k).rest + 1 → IsConsistentPair chains points k i j → KeepsAll b (chain_places (chain_at chains k)) i j
+keeps_sides chains points k b i j are clear beside ij within pair =
+    let h = clear_chain chains points k b are clear beside in
+    keeps_by_consistent chains points k h.0 b i j h.1 ij within pair
+
+-- Where it does, a near pair is consistent: what is out of reach of the chain does not count.
+pub near_consistent : (chains : List Chain) (points : List Place) (k : ℕ) (b : Flanks) (weights : Scales) (bound : ℤ) (i j : ℕ) → AreChains chains → IsClearIn chains points k → IsBeside chains points k b → HoldsReach chains points k weights bound b → i < j → j < length (chain_at chains k).rest + 1 → IsNearPair weights bound (chain_at chains k) i j → KeepsAll b (chain_places (chain_at chains k)) i j → IsConsistentPair chains points k i j
+near_consistent chains points k b weights bound i j are clear beside holds ij within near keeps p obstacle =
+    let h = clear_chain chains points k b are clear beside in
+    only_reach_counts_of_chain (chain_at chains k) weights.x weights.y bound i j p holds.weight_across holds.weight_up holds.bound_low (are.monotone k) ij (omega arith) near
+    (λ reach. (by_places (chain_at chains k) i j p ij within).0 (obstacle_consistent chains points k h.0 b weights bound i j p h.1 holds reach obstacle keeps ij within))
 
 -- what stands beside an edge from the vertex number i on is past it
 pub past_vertex : (chains : List Chain) (points : List Place) (k : ℕ) (b : Flanks) (frame : Frame) (rising : Bool) (chain : List Place) (i s : ℕ) (hand : Hand) (p : Place) → frame ≡ (chain_at chains k).frame → chain ≡ chain_places (chain_at chains k) → IsBeside chains points k b → RunsAlong frame rising chain → i ≤ s → s + 1 < length chain → StandsInRow b (row_of s hand) p → IsAlong frame rising (vertex_at chain i) p
@@ -183,11 +196,18 @@ past_vertex chains points k b frame rising chain i s hand p is_frame is_chain be
 
 -- ---- as the code tells it
 
-pub told_exactly : (chains : List Chain) (points : List Place) (k : ℕ) (b : Flanks) (chain : List Place) (i j : ℕ) (P : Type 0) → chain ≡ chain_places (chain_at chains k) → AreChains chains → IsClearIn chains points k → IsBeside chains points k b → i < j → j < length (chain_at chains k).rest + 1 → (P ↔ KeepsAll b chain i j) → P ↔ IsConsistentPair chains points k i j
-told_exactly chains points k b chain i j P is_chain are clear beside ij within told =
-    let here = subst (λ (ps : List Place). P ↔ KeepsAll b ps i j) is_chain told in
-    let exact = consistent_exactly chains points k b i j are clear beside ij within in
-    (λ h. exact.0 (here.0 h), λ pair. here.1 (exact.1 pair))
+-- what is told of the pair (i, j): a consistent pair is told true, and a near one that is told true is consistent
+pub record TellsPair (chains : List Chain) (points : List Place) (k : ℕ) (b : Flanks) (i j : ℕ) (P : Type 0) : Type 0 where
+  pub told : IsConsistentPair chains points k i j → P
+  pub near : (weights : Scales) (bound : ℤ) → HoldsReach chains points k weights bound b → P → IsNearPair weights bound (chain_at chains k) i j → IsConsistentPair chains points k i j
 
-pub empty_exactly : (chains : List Chain) (points : List Place) (k : ℕ) (b : Flanks) (i j : ℕ) → ((row : ℕ) (p : Place) → ¬ (StandsInRow b row p)) → AreChains chains → IsClearIn chains points k → IsBeside chains points k b → i < j → j < length (chain_at chains k).rest + 1 → IsConsistentPair chains points k i j
-empty_exactly chains points k b i j none are clear beside ij within = (consistent_exactly chains points k b i j are clear beside ij within).0 (λ s low high hand p stands. absurd (none (row_of s hand) p stands))
+pub tells_pair : (chains : List Chain) (points : List Place) (k : ℕ) (b : Flanks) (chain : List Place) (i j : ℕ) (P : Type 0) → chain ≡ chain_places (chain_at chains k) → AreChains chains → IsClearIn chains points k → IsBeside chains points k b → i < j → j < length (chain_at chains k).rest + 1 → (P ↔ KeepsAll b chain i j) → TellsPair chains points k b i j P
+tells_pair chains points k b chain i j P is_chain are clear beside ij within told =
+    let here = subst (λ (ps : List Place). P ↔ KeepsAll b ps i j) is_chain told in
+    record {
+      told = λ pair. here.1 (keeps_sides chains points k b i j are clear beside ij within pair);
+      near = λ weights bound holds t near. near_consistent chains points k b weights bound i j are clear beside holds ij within near (here.0 t);
+    }
+
+pub empty_near : (chains : List Chain) (points : List Place) (k : ℕ) (b : Flanks) (weights : Scales) (bound : ℤ) (i j : ℕ) → ((row : ℕ) (p : Place) → ¬ (StandsInRow b row p)) → AreChains chains → IsClearIn chains points k → IsBeside chains points k b → HoldsReach chains points k weights bound b → i < j → j < length (chain_at chains k).rest + 1 → IsNearPair weights bound (chain_at chains k) i j → IsConsistentPair chains points k i j
+empty_near chains points k b weights bound i j none are clear beside holds ij within near = near_consistent chains points k b weights bound i j are clear beside holds ij within near (λ s low high hand p stands. absurd (none (row_of s hand) p stands))

@@ -1,5 +1,5 @@
 -- The rows of the strays beside a chain.
-use Rattle.std.proofs.Common.{◌≡◌, ◌⊎◌, inl, inr, ℕ, ◌+◌, ◌-◌, ◌*◌, ◌<◌, ◌≤◌, Bool, true, false, List, length, get_or, map, ℤ, pos, refl, sym, ap, ◌∙◌, subst, arith}
+use Rattle.std.proofs.Common.{◌≡◌, ◌⊎◌, inl, inr, ℕ, ◌+◌, ◌-◌, ◌*◌, ◌<◌, ◌≤◌, Bool, true, false, List, length, get_or, map, ℤ, pos, ◌≤ℤ◌, refl, sym, ap, ◌∙◌, subst, arith}
 use Rattle.std.specs.Prelude.{Contains, All, slice_index}
 use Rattle.std.proofs.lemmas.Bool.{cases_lt}
 use Rattle.std.proofs.lemmas.List.{length-map, get_or-map, get_or_default}
@@ -21,7 +21,13 @@ use Rattle.arc_map.specs.Work.{Work}
 use Rattle.map_index.specs.Items.{IsOther, Owns}
 use Rattle.side_wedge.specs.Obstacles.{IsObstacle}
 use Rattle.side_wedge.specs.Obstacles.IsObstacle.{Town, Vertex}
-use Rattle.side_wedge.specs.Flanks.{Flanks, IsInRow, StandsInRow, IsBesideEdge, IsBeyond, IsBeside, row_of}
+use Rattle.grid_exact.specs.Weights.{Scales}
+use Rattle.arc_map.specs.Vertices.{places}
+use Rattle.chain_reach.specs.Reach.{IsInReachBy}
+use Rattle.chain_reach.specs.Steps.{AreStepsOf, IsNearSomeEdge}
+use Rattle.chain_reach.specs.declared.steps.Steps.{Steps}
+use Rattle.chain_reach.proofs.Numbered.{near_some_edge}
+use Rattle.side_wedge.specs.Flanks.{Flanks, IsInRow, StandsInRow, IsBesideEdge, IsBeyond, IsBeside, HoldsReach, row_of}
 use Rattle.side_wedge.specs.Strays.{RunsAlong, IsStartOf, stray}
 use Rattle.side_wedge.specs.Gathered.{AreMapStrays}
 use Rattle.side_wedge.specs.declared.strays.Stray.{Stray}
@@ -149,10 +155,10 @@ owner_of chains points k p (Vertex l within other has) = record { owner = OfChai
 -- ---- what is laid out
 
 -- the strays of a chain of a map, by their rows
-pub record IsLaidOut (w : Work) (k : ℕ) (rising : Bool) (strays : List Stray) (b : Flanks) : Type 0 where
+pub record IsLaidOut (w : Work) (k : ℕ) (rising : Bool) (steps : Steps) (strays : List Stray) (b : Flanks) : Type 0 where
   pub frame : b.frame ≡ (chain_at w.chains k).frame
   pub runs : RunsAlong (chain_at w.chains k).frame rising (chain_places (chain_at w.chains k))
-  pub are_strays : AreMapStrays (chain_at w.chains k).frame rising (chain_places (chain_at w.chains k)) k w strays
+  pub are_strays : AreMapStrays (chain_at w.chains k).frame rising (chain_places (chain_at w.chains k)) k steps w strays
   pub starts : AreStarts strays b.starts (2 * length (chain_at w.chains k).rest)
   pub of_strays : AreOfStrays strays b.xs b.ys
   pub edges : All (λ chain. 0 < length chain.rest) w.chains
@@ -165,8 +171,8 @@ record IsItemInRow (chains : List Chain) (points : List Place) (k : ℕ) (rising
   obstacle : IsObstacle chains points k p
   beside : IsBesideEdge (chain_at chains k).frame (chain_places (chain_at chains k)) s hand p
 
-item_in_row : (w : Work) (k : ℕ) (rising : Bool) (strays : List Stray) (b : Flanks) (s : ℕ) (hand : Hand) (p : Place) → IsLaidOut w k rising strays b → s < length (chain_at w.chains k).rest → StandsInRow b (row_of s hand) p → IsItemInRow w.chains w.read.points k rising s hand p
-item_in_row w k rising strays b s hand p laid within stands =
+item_in_row : (w : Work) (k : ℕ) (rising : Bool) (steps : Steps) (strays : List Stray) (b : Flanks) (s : ℕ) (hand : Hand) (p : Place) → IsLaidOut w k rising steps strays b → s < length (chain_at w.chains k).rest → StandsInRow b (row_of s hand) p → IsItemInRow w.chains w.read.points k rising s hand p
+item_in_row w k rising steps strays b s hand p laid within stands =
     let chains = w.chains in
     let points = w.read.points in
     let frame = (chain_at chains k).frame in
@@ -183,8 +189,8 @@ item_in_row w k rising strays b s hand p laid within stands =
       beside = subst (IsBesideEdge frame chain s hand) here (subst (λ (h : Hand). IsBesideEdge frame chain s h live.item.at) (sym same.1) (subst (λ (i : ℕ). IsBesideEdge frame chain i live.is.hand live.item.at) (sym same.0) beside));
     }
 
-obstacle_in_row : (w : Work) (k : ℕ) (rising : Bool) (strays : List Stray) (b : Flanks) (s : ℕ) (hand : Hand) (p : Place) → IsLaidOut w k rising strays b → s < length (chain_at w.chains k).rest → IsObstacle w.chains w.read.points k p → IsBesideEdge (chain_at w.chains k).frame (chain_places (chain_at w.chains k)) s hand p → StandsInRow b (row_of s hand) p ⊎ IsBeyond (chain_places (chain_at w.chains k)) p
-obstacle_in_row w k rising strays b s hand p laid within obstacle beside =
+obstacle_in_row : (w : Work) (k : ℕ) (rising : Bool) (steps : Steps) (strays : List Stray) (b : Flanks) (s : ℕ) (hand : Hand) (p : Place) → IsLaidOut w k rising steps strays b → s < length (chain_at w.chains k).rest → IsObstacle w.chains w.read.points k p → IsBesideEdge (chain_at w.chains k).frame (chain_places (chain_at w.chains k)) s hand p → IsNearSomeEdge steps (chain_places (chain_at w.chains k)) p → StandsInRow b (row_of s hand) p ⊎ IsBeyond (chain_places (chain_at w.chains k)) p
+obstacle_in_row w k rising steps strays b s hand p laid within obstacle beside near =
     let chains = w.chains in
     let points = w.read.points in
     let frame = (chain_at chains k).frame in
@@ -192,19 +198,36 @@ obstacle_in_row w k rising strays b s hand p laid within obstacle beside =
     let inside : s + 1 < length chain = omega (arith, within, length-chain_places (chain_at chains k)) in
     let over = spanned_over frame rising (vertex_at chain s) (vertex_at chain (s + 1)) p (laid.runs s (s + 1) (omega arith) inside) beside.spanned in
     let owned = owner_of chains points k p obstacle in
-    elim (laid.are_strays.all (record { at = p; owner = owned.owner }) s hand owned.owns laid.runs (record { other = owned.other; over = record { in_chain = inside; start = over.0; end = over.1 }; aside = beside.aside })) [
+    elim (laid.are_strays.all (record { at = p; owner = owned.owner }) s hand owned.owns laid.runs (record { other = owned.other; over = record { in_chain = inside; start = over.0; end = over.1 }; aside = beside.aside }) near) [
       | inl has ↦ inl (stands_by_stray strays b (2 * length (chain_at chains k).rest) (stray s hand p) laid.starts laid.of_strays (row_within s (length (chain_at chains k).rest) hand within) has)
       | inr beyond ↦ inr beyond
     ]
 
-pub laid_beside : (w : Work) (k : ℕ) (rising : Bool) (strays : List Stray) (b : Flanks) → IsLaidOut w k rising strays b → IsBeside w.chains w.read.points k b
-laid_beside w k rising strays b laid = record {
+pub laid_beside : (w : Work) (k : ℕ) (rising : Bool) (steps : Steps) (strays : List Stray) (b : Flanks) → IsLaidOut w k rising steps strays b → IsBeside w.chains w.read.points k b
+laid_beside w k rising steps strays b laid = record {
   frame = laid.frame;
   rows = laid.starts.count;
-  obstacles = λ s hand p within stands. (item_in_row w k rising strays b s hand p laid within stands).obstacle;
-  beside = λ s hand p within stands. (item_in_row w k rising strays b s hand p laid within stands).beside;
-  all = λ s hand p within obstacle beside. obstacle_in_row w k rising strays b s hand p laid within obstacle beside;
+  obstacles = λ s hand p within stands. (item_in_row w k rising steps strays b s hand p laid within stands).obstacle;
+  beside = λ s hand p within stands. (item_in_row w k rising steps strays b s hand p laid within stands).beside;
   edges = laid.edges;
+}
+
+-- the steps are those of the weights and the bound, which are in their ranges
+pub record AreLoaded (weights : Scales) (bound : ℤ) (steps : Steps) : Type 0 where
+  pub across : AreStepsOf weights.x bound steps.across
+  pub up : AreStepsOf weights.y bound steps.up
+  pub weight_across : pos 1 ≤ℤ weights.x
+  pub weight_up : pos 1 ≤ℤ weights.y
+  pub bound_low : pos 0 ≤ℤ bound
+
+pub laid_reach : (w : Work) (k : ℕ) (rising : Bool) (steps : Steps) (strays : List Stray) (b : Flanks) (weights : Scales) (bound : ℤ) → AreLoaded weights bound steps → IsLaidOut w k rising steps strays b → HoldsReach w.chains w.read.points k weights bound b
+laid_reach w k rising steps strays b weights bound loaded laid = record {
+  weight_across = loaded.weight_across;
+  weight_up = loaded.weight_up;
+  bound_low = loaded.bound_low;
+  all = λ s hand p within obstacle beside reach.
+      obstacle_in_row w k rising steps strays b s hand p laid within obstacle beside
+      (near_some_edge weights.x weights.y bound steps p (chain_at w.chains k).first.place (places (chain_at w.chains k).rest) loaded.weight_across loaded.weight_up loaded.across loaded.up reach);
 }
 
 -- ---- as the code finds it
@@ -215,13 +238,13 @@ starts_by strays xs starts rows same count right = record { count = count; right
 pub of_strays_by : (strays us : List Stray) (xs ys : List ℤ) → us ≡ strays → xs ≡ map (λ x. x.at.x) us → ys ≡ map (λ x. x.at.y) us → AreOfStrays strays xs ys
 of_strays_by strays us xs ys same e f = record { across = e ∙ ap (map (λ x. x.at.x)) same; up = f ∙ ap (map (λ x. x.at.y)) same }
 
-pub laid_by : (w : Work) (k : ℕ) (rising : Bool) (strays : List Stray) (b : Flanks) (chain : List Place) (rows : ℕ) → b.frame ≡ (chain_at w.chains k).frame → chain ≡ chain_places (chain_at w.chains k) → rows ≡ 2 * (length chain - 1) → RunsAlong b.frame rising chain → AreMapStrays b.frame rising chain k w strays → AreStarts strays b.starts rows → AreOfStrays strays b.xs b.ys → All (λ chain. 0 < length chain.rest) w.chains → IsLaidOut w k rising strays b
-laid_by w k rising strays b chain rows is_frame is_chain is_rows runs are starts of edges =
+pub laid_by : (w : Work) (k : ℕ) (rising : Bool) (steps : Steps) (strays : List Stray) (b : Flanks) (chain : List Place) (rows : ℕ) → b.frame ≡ (chain_at w.chains k).frame → chain ≡ chain_places (chain_at w.chains k) → rows ≡ 2 * (length chain - 1) → RunsAlong b.frame rising chain → AreMapStrays b.frame rising chain k steps w strays → AreStarts strays b.starts rows → AreOfStrays strays b.xs b.ys → All (λ chain. 0 < length chain.rest) w.chains → IsLaidOut w k rising steps strays b
+laid_by w k rising steps strays b chain rows is_frame is_chain is_rows runs are starts of edges =
     let count : rows ≡ 2 * length (chain_at w.chains k).rest = let size = ap length is_chain in omega (arith, size, length-chain_places (chain_at w.chains k)) in
     record {
       frame = is_frame;
       runs = subst (λ (f : Frame). RunsAlong f rising (chain_places (chain_at w.chains k))) is_frame (subst (λ (ps : List Place). RunsAlong b.frame rising ps) is_chain runs);
-      are_strays = subst (λ (f : Frame). AreMapStrays f rising (chain_places (chain_at w.chains k)) k w strays) is_frame (subst (λ (ps : List Place). AreMapStrays b.frame rising ps k w strays) is_chain are);
+      are_strays = subst (λ (f : Frame). AreMapStrays f rising (chain_places (chain_at w.chains k)) k steps w strays) is_frame (subst (λ (ps : List Place). AreMapStrays b.frame rising ps k steps w strays) is_chain are);
       starts = subst (AreStarts strays b.starts) count starts;
       of_strays = of;
       edges = edges;

@@ -5,12 +5,13 @@ use Rattle.std.proofs.lemmas.List.{get_or_past, get_or-set_same, get_or-set_othe
 use Rattle.std.specs.Prelude.{slice_index}
 use Rattle.grid_exact.specs.Geometry.{Place}
 use Rattle.grid_exact.specs.declared.frame.Frame.{Frame}
-use Rattle.chain_side.specs.Along.{IsAlong}
+use Rattle.chain_side.specs.Along.{IsAlong, vertex_at}
 use Rattle.lane_kernels.specs.declared.side.Hand.TheVariants.{Left, Right}
 use Rattle.lane_kernels.specs.Hands.{IsOnSide}
 use Rattle.lane_kernels.specs.Places.{place_at, EachPlace}
 use Rattle.side_wedge.specs.Flanks.{Flanks, StandsInRow, KeepsSides, row_of}
 use Rattle.side_wedge.specs.Rows.{IsRow, KeepsAll}
+use Rattle.side_wedge.specs.Strays.{RunsAlong}
 use Rattle.side_wedge.specs.Wedge.{Lets, StartsAt, IsPast}
 use Rattle.side_wedge.specs.declared.wedge.Wedge.{Wedge}
 
@@ -98,17 +99,20 @@ told_more b chain i edge row t within told here j low high =
           subst (λ (n : ℕ). IsTrue (get_or (set row (edge + 1) t) n false) ↔ KeepsAll b chain i n) same (subst (λ (u : Bool). IsTrue u ↔ KeepsAll b chain i (edge + 1)) (sym written) here)
     ]
 
--- ---- the whole row
+-- ---- a closed wedge
 
--- a row that is clear up to i, and tells of each place past it
-pub told_of_each : (P : ℕ → Type 0) (row : List Bool) (i : ℕ) → ((j : ℕ) → j ≤ i → get_or row j false ≡ false) → ((j : ℕ) → i < j → j < length row → IsTrue (get_or row j false) ↔ P j) → (j : ℕ) → IsTrue (get_or row j false) ↔ ((i < j) × (j < length row) × P j)
-told_of_each P row i clear told j = (
-  λ t. elim (cases_lt i j) [
-    | inr early ↦ let no_one = clear j (omega arith) in absurd (cc)
-    | inl past ↦ elim (cases_lt j (length row)) [
-      | inr over ↦ let no_one = get_or_past row j false over in absurd (cc)
-      | inl within ↦ (past, within, (told j past within).0 t)
+-- where the wedge lets nothing more, nothing keeps its side to a later vertex, and the row is clear from there on
+pub told_closed : (b : Flanks) (frame : Frame) (rising : Bool) (chain : List Place) (i edge j : ℕ) (w : Wedge) (row new : List Bool) → RunsAlong frame rising chain → StartsAt w frame rising (vertex_at chain i) → LetsSoFar b frame rising (vertex_at chain i) i (edge + 1) w → ((v : Place) → IsPast w v → ¬ (Lets w v)) → ToldSoFar b chain i edge row → ((n : ℕ) → n < edge + 1 → get_or new n false ≡ get_or row n false) → ((n : ℕ) → edge + 1 ≤ n → n < length new → get_or new n false ≡ false) → i < j → j < length chain → j < length new → IsTrue (get_or new j false) ↔ KeepsAll b chain i j
+told_closed b frame rising chain i edge j w row new runs at lets closed told before clear low within high =
+    elim (cases_lt j (edge + 1)) [
+      | inl less ↦ subst (λ (u : Bool). IsTrue u ↔ KeepsAll b chain i j) (sym (before j less)) (told j low (omega arith))
+      | inr more ↦
+          let none : get_or new j false ≡ false = clear j more high in
+          let along = runs i j low within in (
+            λ t. absurd (no_true (get_or new j false) none t),
+            λ keeps. absurd (closed (vertex_at chain j) (past_of w frame rising (vertex_at chain i) (vertex_at chain j) at along) ((lets (vertex_at chain j) along).1 (λ s above below. keeps s above (omega arith)))),
+          )
     ]
-  ],
-  λ h. (told j h.0 h.1).1 h.2,
-)
+  where
+    no_true : (t : Bool) → t ≡ false → IsTrue t → ⊥
+    no_true t e h = cc

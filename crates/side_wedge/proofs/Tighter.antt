@@ -148,3 +148,11 @@ past_by frame rising s limit h x e = along_true frame rising s x (h x e)
 
 pub by_past : (frame : Frame) (rising : Bool) (s : Place) (limit : Option Place) → ForSome limit (IsAlong frame rising s) → ForSome limit (λ p. IsTrue (is_along frame rising s p))
 by_past frame rising s limit h x e = true_along frame rising s x (h x e)
+
+-- ---- crossed limits
+
+-- where the left limit is not on the left of the way to the right one, no way has it on its left and the right one on its right
+pub crossed_limits : (frame : Frame) (rising : Bool) (start p q v : Place) → ¬ (IsOnSide Left start q p) → IsAlong frame rising start p → IsAlong frame rising start q → IsAlong frame rising start v → IsOnSide Left start v p → ¬ (IsOnSide Right start v q)
+crossed_limits frame rising start p q v off sp sq sv left right =
+    let there = not_on_hand_then frame rising Left start v q p sv sq sp off left in
+    omega (arith, sums, there, right)

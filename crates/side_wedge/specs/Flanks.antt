@@ -1,6 +1,8 @@
 -- What stands beside the edges of a chain.
-use Rattle.std.specs.Prelude.{◌≡◌, ◌⊎◌, ◌+◌, ◌*◌, ◌<◌, ◌≤◌, ℕ, ℤ, ◌<ℤ◌, List, length, All, slice_index}
+use Rattle.std.specs.Prelude.{◌≡◌, ◌⊎◌, ◌+◌, ◌*◌, ◌<◌, ◌≤◌, ℕ, ℤ, pos, ◌≤ℤ◌, ◌<ℤ◌, List, length, All, slice_index}
+use Rattle.std.specs.List.{between}
 use Rattle.grid_exact.specs.Geometry.{Place}
+use Rattle.grid_exact.specs.Weights.{Scales}
 use Rattle.grid_exact.specs.declared.frame.Frame.{Frame}
 use Rattle.monotone_split.specs.Sides.{IsSpanned}
 use Rattle.chain_side.specs.Along.{vertex_at}
@@ -8,7 +10,10 @@ use Rattle.lane_kernels.specs.declared.side.Hand.{Hand}
 use Rattle.lane_kernels.specs.declared.side.Hand.TheVariants.{Left, Right}
 use Rattle.lane_kernels.specs.Hands.{IsOnSide}
 use Rattle.lane_kernels.specs.Places.{place_at}
-use Rattle.arc_map.specs.Chains.{Chain, chain_at, chain_places}
+use Rattle.arc_map.specs.Vertices.{places}
+use Rattle.arc_map.specs.Chains.{Chain, chain_at, chain_places, IsWithinBound}
+use Rattle.arc_map.specs.Paths.{vertices_of, vertex_at as vertex_number}
+use Rattle.chain_reach.specs.Reach.{IsInReachBy}
 use Rattle.side_wedge.specs.Obstacles.{IsObstacle}
 
 -- the places beside the edges of a chain, by their coordinates, in rows, with the number of the first place of each row; the frame
@@ -48,17 +53,27 @@ pub data IsBeyond (chain : List Place) (p : Place) : Type 0 where
   South : All (λ v. p.y <ℤ v.y) chain → IsBeyond chain p
   North : All (λ v. v.y <ℤ p.y) chain → IsBeyond chain p
 
--- these are the obstacles beside the edges of the chain number k
+-- these are obstacles beside the edges of the chain number k
 pub record IsBeside (chains : List Chain) (points : List Place) (k : ℕ) (b : Flanks) : Type 0 where
   pub frame : b.frame ≡ (chain_at chains k).frame
   pub rows : length b.starts ≡ 2 * length (chain_at chains k).rest + 1
   -- what stands in the row of an edge is an obstacle, and stands beside the edge
   pub obstacles : (s : ℕ) (hand : Hand) (p : Place) → s < length (chain_at chains k).rest → StandsInRow b (row_of s hand) p → IsObstacle chains points k p
   pub beside : (s : ℕ) (hand : Hand) (p : Place) → s < length (chain_at chains k).rest → StandsInRow b (row_of s hand) p → IsBesideEdge (chain_at chains k).frame (chain_places (chain_at chains k)) s hand p
-  -- each obstacle beside an edge stands in the edge's row, unless it is beyond the chain
-  pub all : (s : ℕ) (hand : Hand) (p : Place) → s < length (chain_at chains k).rest → IsObstacle chains points k p → IsBesideEdge (chain_at chains k).frame (chain_places (chain_at chains k)) s hand p → StandsInRow b (row_of s hand) p ⊎ IsBeyond (chain_places (chain_at chains k)) p
   -- each chain of the map has an edge
   pub edges : All (λ chain. 0 < length chain.rest) chains
+
+-- of the obstacles in reach of the chain number k with these weights and this bound, each that is beside an edge stands in the
+-- edge's row, unless it is beyond the chain
+pub record HoldsReach (chains : List Chain) (points : List Place) (k : ℕ) (weights : Scales) (bound : ℤ) (b : Flanks) : Type 0 where
+  pub weight_across : pos 1 ≤ℤ weights.x
+  pub weight_up : pos 1 ≤ℤ weights.y
+  pub bound_low : pos 0 ≤ℤ bound
+  pub all : (s : ℕ) (hand : Hand) (p : Place) → s < length (chain_at chains k).rest → IsObstacle chains points k p → IsBesideEdge (chain_at chains k).frame (chain_places (chain_at chains k)) s hand p → IsInReachBy weights.x weights.y bound p (chain_at chains k).first.place (places (chain_at chains k).rest) → StandsInRow b (row_of s hand) p ⊎ IsBeyond (chain_places (chain_at chains k)) p
+
+-- the vertices of the chain between those number i and j are within the bound of the segment between the two
+abbrev pub IsNearPair : Scales → ℤ → Chain → ℕ → ℕ → Type 0
+IsNearPair weights bound chain i j = All (λ u. IsWithinBound weights.x weights.y bound (vertex_number chain i).place (vertex_number chain j).place u.place) (between (i + 1) j (vertices_of chain))
 
 -- what stands beside the edge number s is on the same hand of the way from a to v
 abbrev pub KeepsSides : Flanks → ℕ → Place → Place → Type 0

@@ -4,7 +4,6 @@ pub mod Limits
 pub mod Wedge
 pub mod Flanks
 pub mod Strays
-pub mod Corners
 pub mod Layout
 pub mod Rows
 pub mod Gathered

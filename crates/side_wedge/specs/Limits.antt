@@ -7,6 +7,7 @@ use Rattle.grid_exact.specs.declared.frame.Frame.{Frame}
 use Rattle.grid_exact.specs.declared.frame.Frame.TheVariants.{Plain, Turned}
 use Rattle.chain_side.specs.Along.{IsAlong}
 use Rattle.lane_kernels.specs.declared.side.Hand.{Hand}
+use Rattle.lane_kernels.specs.declared.side.Hand.TheVariants.{Left, Right}
 use Rattle.lane_kernels.specs.Hands.{IsOnSide}
 use Rattle.lane_kernels.specs.Places.{EachBetween}
 
@@ -21,6 +22,10 @@ is_along Turned false a b = is_before (turned b) (turned a)
 abbrev pub IsWithinLimit : Hand → Place → Option Place → Place → Type 0
 IsWithinLimit hand start None v = Unit {0}
 IsWithinLimit hand start (Some p) v = IsOnSide hand start v p
+
+-- where both limits are past the start, no way past it has the left limit on its left and the right limit on its right
+abbrev pub AreCrossed : Frame → Bool → Place → Option Place → Option Place → Type 0
+AreCrossed frame rising start left right = ForSome left (IsAlong frame rising start) → ForSome right (IsAlong frame rising start) → (v : Place) → IsAlong frame rising start v → IsWithinLimit Left start left v → ¬ (IsWithinLimit Right start right v)
 
 -- the new limit stands for the old one and p: it is past the start, and is on this hand of the way to a place past the start
 -- exactly where both are

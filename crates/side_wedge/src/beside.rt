@@ -1,21 +1,23 @@
 //! What stands beside one chain, and the consistency of its pairs.
-ghost use Rattle.std.specs.Prelude.{◌≡◌, ◌↔◌, ◌+◌, ◌-◌, ◌*◌, ◌<◌, ◌≤◌, ℕ, true, false, IfOk, IsTrue, length, slice_index_or};
+ghost use Rattle.std.specs.Prelude.{◌≡◌, ◌↔◌, ◌+◌, ◌-◌, ◌*◌, ◌<◌, ◌≤◌, ℕ, ℤ, true, false, IfOk, IsTrue, length, slice_index_or};
 ghost use Rattle.grid_exact.specs.Geometry.{Place};
 ghost use Rattle.chain_side.specs.Along.{IsAlong, vertex_at};
 ghost use Rattle.lane_kernels.specs.declared.side.Hand.{Hand};
 ghost use Rattle.arc_map.specs.Chains.{chain_at, IsClearIn};
 ghost use Rattle.map_index.specs.IndexedMap.{items_in};
 ghost use Rattle.side_wedge.specs.Obstacles.{IsConsistentPair};
-ghost use Rattle.side_wedge.specs.Flanks.{IsBeside, StandsInRow, KeepsSides, row_of};
+ghost use Rattle.grid_exact.specs.Weights.{Scales};
+ghost use Rattle.side_wedge.specs.Flanks.{HoldsReach, IsBeside, IsNearPair, StandsInRow, KeepsSides, row_of};
 ghost use Rattle.side_wedge.specs.Rows.{IsRow, KeepsAll};
 ghost use Rattle.side_wedge.specs.Strays.{RunsAlong};
 ghost use Rattle.side_wedge.specs.Wedge.{Lets, StartsAt, IsPast};
 
-use crate::gather::gather;
+use crate::gather::{Subject, gather};
 use crate::strays::{Stray, rises, write_places, write_starts};
 use crate::wedge::Wedge;
 use arc_map::NoMemory;
-use grid_exact::{Frame, MAX_CHAIN_EDGES, Point};
+use chain_reach::Steps;
+use grid_exact::{Bound, Frame, MAX_CHAIN_EDGES, Point, Weights};
 use lane_kernels::Hand;
 use map_index::IndexedMap;
 use std::alloc::Global;
@@ -24,8 +26,8 @@ use std::marker::Model;
 // How many rows a chain has at most, and the end of the last: two rows to an edge.
 const MOST_STARTS: usize = 2 * MAX_CHAIN_EDGES + 1;
 
-/// What stands beside the edges of one chain, in memory that is taken once. Contracts see the places by their rows, two to an
-/// edge, and for how many there is room.
+/// What stands beside the edges of one chain, in memory that is taken once. Contracts see the
+/// places by their rows, two to an edge, and for how many there is room.
 #[derive(Drop)]
 pub struct Beside {
     room: usize,
@@ -49,7 +51,8 @@ impl Model for Beside {
 }
 
 impl Beside {
-    /// Nothing yet, with room for what stands beside a chain among so many items. The only error is want of memory.
+    /// Nothing yet, with room for what stands beside a chain among so many items. The only error is
+    /// want of memory.
     pub fn with_room(alloc: Global, items: usize) -> Result<Beside, NoMemory>
         ensures { IfOk result (λ beside. beside.room ≡ items) }
     {
@@ -63,31 +66,47 @@ impl Beside {
         })
     }
 
-    /// Finds what stands beside chain number `k` of the map: feature points and vertices of other chains. It takes no memory.
-    pub fn load(&mut self, map: &IndexedMap, k: u32)
+    /// Finds what stands beside chain number `k` of the map: feature points and vertices of other
+    /// chains, all at least that are in reach of the chain with these weights and this bound, in
+    /// grid units. Nothing else can change sides where what is skipped is within the bound. It
+    /// takes no memory.
+    pub fn load(&mut self, map: &IndexedMap, k: u32, weights: Weights, bound: Bound)
         requires chain { k < length map.now.chains }
         requires room { items_in map.now ≤ self.old.room }
         ensures beside { IsBeside map.now.chains map.now.read.points k self.new }
+        ensures reach { HoldsReach map.now.chains map.now.read.points k weights bound self.new }
         ensures room { self.new.room ≡ self.old.room }
     {
         let chain = map.chain(k);
         let frame = map.frame(k);
-        gather(&mut self.strays, chain, frame, rises(chain, frame), k, map);
+        let subject = Subject {
+            number: k,
+            chain,
+            frame,
+            rising: rises(chain, frame),
+            steps: Steps::of(weights, bound),
+        };
+        gather(&mut self.strays, &subject, map);
         write_starts(&mut self.starts, &self.strays, 2 * (chain.len() as u32 - 1));
         write_places(&mut self.xs, &mut self.ys, &self.strays);
         self.frame = frame;
     }
 
-    /// Tells of each vertex number j of chain number `k`, in place j of the row, whether j is past the vertex number i and the pair
-    /// (i, j) is consistent: whether nothing changes sides where the chain from i to j becomes a straight edge.
+    /// Tells of each vertex number j of chain number `k` past the vertex number i, in place j of
+    /// the row, whether nothing changes sides where the chain from i to j becomes a straight edge.
+    /// A consistent pair (i, j) is told true. One that is told true is consistent where the skipped
+    /// vertices are within a bound whose reach was loaded. The places up to i are false. The row
+    /// may end before the chain does.
     pub fn consistent_from(&self, map: &IndexedMap, k: u32, i: usize, row: &mut [bool])
         requires chain { k < length map.now.chains }
         requires clear { IsClearIn map.now.chains map.now.read.points k }
         requires beside { IsBeside map.now.chains map.now.read.points k self.now }
-        requires start { i < length (chain_at map.now.chains k).rest }
-        requires row { length row.old ≡ length (chain_at map.now.chains k).rest + 1 }
-        ensures consistent { (j : ℕ) → IsTrue (slice_index_or row.new j false)
-            ↔ ((i < j) × (j < length row.new) × IsConsistentPair map.now.chains map.now.read.points k i j) }
+        requires start { i < length row.old }
+        requires row { length row.old ≤ length (chain_at map.now.chains k).rest + 1 }
+        ensures consistent { (j : ℕ) → i < j → j < length row.new → IsConsistentPair map.now.chains map.now.read.points k i j → IsTrue (slice_index_or row.new j false) }
+        ensures near { (weights : Scales) (bound : ℤ) → HoldsReach map.now.chains map.now.read.points k weights bound self.now
+            → (j : ℕ) → i < j → j < length row.new → IsTrue (slice_index_or row.new j false) → IsNearPair weights bound (chain_at map.now.chains k) i j → IsConsistentPair map.now.chains map.now.read.points k i j }
+        ensures before { (j : ℕ) → j ≤ i → slice_index_or row.new j false ≡ false }
         ensures length { length row.new ≡ length row.old }
     {
         let chain = map.chain(k);
@@ -114,12 +133,13 @@ impl Beside {
         self.xs.is_empty()
     }
 
-    // Tells of each vertex number j past the vertex number i whether what stands between them keeps its side. The places up to i
-    // stay.
+    // Tells of each vertex number j past the vertex number i whether what stands between them keeps
+    // its side. The places up to i stay. Once the wedge is closed, nothing keeps its side to a
+    // later vertex.
     fn write_row(&self, chain: &[Point], frame: Frame, rising: bool, i: usize, row: &mut [bool])
-        requires start { i + 1 < length chain.now }
+        requires start { i < length row.old }
         requires short { length chain.now ≤ 1024 }
-        requires row { length row.old ≡ length chain.now }
+        requires row { length row.old ≤ length chain.now }
         requires rows { length self.now.starts + 1 ≡ 2 * length chain.now }
         requires runs { RunsAlong frame rising chain.now }
         requires past { (s : ℕ) (hand : Hand) (p : Place) → i ≤ s → s + 1 < length chain.now → StandsInRow self.now (row_of s hand) p → IsAlong frame rising (vertex_at chain.now i) p }
@@ -128,8 +148,12 @@ impl Beside {
         ensures length { length row.new ≡ length row.old }
     {
         let mut wedge = Wedge::start(frame, chain[i], rising);
-        for edge in i..chain.len() - 1 {
+        for edge in i..row.len() - 1 {
             self.narrow(&mut wedge, edge);
+            if wedge.is_closed() {
+                clear_from(row, edge + 1);
+                return;
+            }
             row[edge + 1] = wedge.admits(chain[edge + 1]);
         }
     }
@@ -166,6 +190,16 @@ fn clear_to(row: &mut [bool], to: usize)
     ensures length { length row.new ≡ length row.old }
 {
     row[..to].fill(false);
+}
+
+// Clears the places from the number `from` on. Those before it stay.
+fn clear_from(row: &mut [bool], from: usize)
+    requires { from ≤ length row.old }
+    ensures clear { (j : ℕ) → from ≤ j → j < length row.new → slice_index_or row.new j false ≡ false }
+    ensures before { (j : ℕ) → j < from → slice_index_or row.new j false ≡ slice_index_or row.old j false }
+    ensures length { length row.new ≡ length row.old }
+{
+    row[from..].fill(false);
 }
 
 // Sets the places from the number `from` on. Those before it stay.

@@ -1,68 +1,208 @@
 //! The search for what stands beside a chain.
-ghost use Rattle.std.specs.Prelude.{◌≡◌, ◌+◌, ◌<◌, ◌≤◌, ◌++◌, length, option_to_list, vec_len, vec_capacity};
+ghost use Rattle.std.specs.Prelude.{◌≡◌, ◌⊎◌, ◌+◌, ◌-◌, ◌<◌, ◌≤◌, ◌++◌, ℕ, IsTrue, IfSome, Some, false, All, length, option_to_list, vec_len, vec_capacity};
 ghost use Rattle.std.specs.List.Sorted.{IsNonDecreasingBy};
+ghost use Rattle.chain_side.specs.Along.{vertex_at};
+ghost use Rattle.lane_kernels.specs.declared.side.Hand.{Hand};
 ghost use Rattle.sweep_index.specs.Walk.{items_left};
 ghost use Rattle.map_index.specs.IndexedMap.{items_in};
-ghost use Rattle.side_wedge.specs.Gathered.{AreStraysOf, AreMapStrays};
+ghost use Rattle.chain_reach.specs.Extents.{IsInBox};
+ghost use Rattle.chain_reach.specs.Steps.{IsNearSomeEdge};
+ghost use Rattle.side_wedge.specs.Gathered.{AreStraysOf, AreStraysTo, AreMapStrays};
+ghost use Rattle.side_wedge.specs.Strays.{RunsAlong, IsStrayItem, IsStrayOf, stray};
 
-use crate::boxes::box_round;
 use crate::strays::{Stray, stray_of};
+use chain_reach::{Extent, Steps, block_end, block_round, block_size, may_reach};
 use grid_exact::{Frame, Point};
 use map_index::IndexedMap;
-use sweep_index::Walk;
+use sweep_index::{Item, Walk};
 
-// Leaves in `strays` the items of the map, of other chains than the chain number `k`, and of none, that stand beside edges of the
-// chain, but for items beyond the chain, in order of their rows. There is room for all items.
-pub fn gather(
-    strays: &mut Vec<Stray>,
-    chain: &[Point],
-    frame: Frame,
-    rising: bool,
-    k: u32,
-    map: &IndexedMap,
-)
-    requires several { 2 ≤ length chain.now }
-    requires short { length chain.now ≤ 1024 }
+// A chain that is looked round: its number, its vertices, how they run, and how far from an edge a
+// place counts.
+#[derive(Clone, Copy)]
+pub struct Subject<'a> {
+    pub number: u32,
+    pub chain: &'a [Point],
+    pub frame: Frame,
+    pub rising: bool,
+    pub steps: Steps,
+}
+
+// Leaves in `strays` items of the map, of other chains and of none, that stand beside edges of the
+// chain: each at least that is near some edge of it, but for items beyond the chain, in order of
+// their rows. There is room for all items.
+pub fn gather(strays: &mut Vec<Stray>, subject: &Subject<'_>, map: &IndexedMap)
+    requires several { 2 ≤ length subject.now.chain.now }
+    requires short { length subject.now.chain.now ≤ 1024 }
     requires room { items_in map.now ≤ vec_capacity strays.old }
-    ensures strays { AreMapStrays frame rising chain.now k map.now strays.new.items }
+    ensures strays { AreMapStrays subject.now.frame subject.now.rising subject.now.chain.now subject.now.number subject.now.steps map.now strays.new.items }
     ensures sorted { IsNonDecreasingBy (λ x. x.row) strays.new.items }
     ensures count { vec_len strays.new ≤ items_in map.now }
     ensures capacity { vec_capacity strays.new ≡ vec_capacity strays.old }
 {
-    let (low, high) = box_round(chain);
-    collect(strays, chain, frame, rising, k, map.in_box(low, high));
+    find(strays, subject, map);
     strays.sort_unstable_by_key(|stray| stray.row);
 }
 
-// Leaves in `strays` those among the items of the walk. There is room for all of them.
-fn collect(
+// The same in any order.
+fn find(strays: &mut Vec<Stray>, subject: &Subject<'_>, map: &IndexedMap)
+    requires several { 2 ≤ length subject.now.chain.now }
+    requires short { length subject.now.chain.now ≤ 1024 }
+    requires room { items_in map.now ≤ vec_capacity strays.old }
+    ensures strays { AreMapStrays subject.now.frame subject.now.rising subject.now.chain.now subject.now.number subject.now.steps map.now strays.new.items }
+    ensures count { vec_len strays.new ≤ items_in map.now }
+    ensures capacity { vec_capacity strays.new ≡ vec_capacity strays.old }
+{
+    let whole = Extent::round(subject.chain);
+    let size = block_size(subject.chain, subject.steps, &whole);
+    if take_blocks(strays, subject, map, &whole, size) {
+        return;
+    }
+    take_whole(strays, subject, map, &whole);
+}
+
+// Leaves what is near the edges of the chain, found block after block. What is near several blocks
+// is taken several times, which does no harm; false where there is no room for that.
+fn take_blocks(
     strays: &mut Vec<Stray>,
-    chain: &[Point],
-    frame: Frame,
-    rising: bool,
-    k: u32,
-    walk: Walk<'_>,
-)
-    requires several { 2 ≤ length chain.now }
-    requires short { length chain.now ≤ 1024 }
-    requires room { length (items_left walk) ≤ vec_capacity strays.old }
-    ensures strays { AreStraysOf frame rising chain.now k (items_left walk.entry) strays.new.items }
-    ensures count { vec_len strays.new ≤ length (items_left walk.entry) }
+    subject: &Subject<'_>,
+    map: &IndexedMap,
+    whole: &Extent,
+    size: usize,
+) -> bool
+    requires several { 2 ≤ length subject.now.chain.now }
+    requires short { length subject.now.chain.now ≤ 1024 }
+    requires room { items_in map.now ≤ vec_capacity strays.old }
+    requires box { All (IsInBox whole.now.low whole.now.high) subject.now.chain.now }
+    requires size { 0 < size }
+    ensures strays { IsTrue result → AreMapStrays subject.now.frame subject.now.rising subject.now.chain.now subject.now.number subject.now.steps map.now strays.new.items }
+    ensures count { vec_len strays.new ≤ items_in map.now }
     ensures capacity { vec_capacity strays.new ≡ vec_capacity strays.old }
 {
     strays.clear();
-    for (_, item) in walk {
-        push_found(strays, stray_of(chain, frame, rising, k, item));
+    let mut start = 0;
+    while start + 1 < subject.chain.len() {
+        let end = block_end(subject.chain, start, size);
+        if !take_block(strays, subject, map, whole, start, end) {
+            return false;
+        }
+        start = end;
     }
+    true
 }
 
-// Puts what was found at the end of the strays. There is room for it.
-fn push_found(strays: &mut Vec<Stray>, found: Option<Stray>)
-    requires { vec_len strays.old < vec_capacity strays.old }
-    ensures items { strays.new.items ≡ strays.old.items ++ option_to_list found }
+// Takes what is near the edges from the vertex number `start` to the number `end`; false where
+// there is no room for that.
+fn take_block(
+    strays: &mut Vec<Stray>,
+    subject: &Subject<'_>,
+    map: &IndexedMap,
+    whole: &Extent,
+    start: usize,
+    end: usize,
+) -> bool
+    requires several { 2 ≤ length subject.now.chain.now }
+    requires short { length subject.now.chain.now ≤ 1024 }
+    requires room { items_in map.now ≤ vec_capacity strays.old }
+    requires count { vec_len strays.old ≤ items_in map.now }
+    requires box { All (IsInBox whole.now.low whole.now.high) subject.now.chain.now }
+    requires order { start < end }
+    requires within { end < length subject.now.chain.now }
+    ensures strays { IsTrue result → AreStraysTo subject.now.frame subject.now.rising subject.now.chain.now subject.now.number subject.now.steps map.now start strays.old.items
+        → AreStraysTo subject.now.frame subject.now.rising subject.now.chain.now subject.now.number subject.now.steps map.now end strays.new.items }
+    ensures count { vec_len strays.new ≤ items_in map.now }
     ensures capacity { vec_capacity strays.new ≡ vec_capacity strays.old }
 {
-    if let Some(stray) = found {
-        strays.push_reserved(stray);
+    let block = block_round(subject.chain, start, end, subject.steps, whole);
+    let part = &subject.chain[start..end + 1];
+    collect(strays, subject, part, map.item_count(), map.in_box(block.low, block.high))
+}
+
+// Leaves what is near the edges of the chain, found in the box round it. No item is taken twice.
+fn take_whole(
+    strays: &mut Vec<Stray>,
+    subject: &Subject<'_>,
+    map: &IndexedMap,
+    whole: &Extent,
+)
+    requires several { 2 ≤ length subject.now.chain.now }
+    requires short { length subject.now.chain.now ≤ 1024 }
+    requires room { items_in map.now ≤ vec_capacity strays.old }
+    requires box { All (IsInBox whole.now.low whole.now.high) subject.now.chain.now }
+    ensures strays { AreMapStrays subject.now.frame subject.now.rising subject.now.chain.now subject.now.number subject.now.steps map.now strays.new.items }
+    ensures count { vec_len strays.new ≤ items_in map.now }
+    ensures capacity { vec_capacity strays.new ≡ vec_capacity strays.old }
+{
+    strays.clear();
+    let _all = collect(strays, subject, subject.chain, map.item_count(), map.in_box(whole.low, whole.high));
+}
+
+// Takes of the items of the walk those that stand beside edges of the chain: each at least that is
+// near an edge of the part. False where there was no room for one.
+fn collect(
+    strays: &mut Vec<Stray>,
+    subject: &Subject<'_>,
+    part: &[Point],
+    room: usize,
+    walk: Walk<'_>,
+) -> bool
+    requires several { 2 ≤ length subject.now.chain.now }
+    requires short { length subject.now.chain.now ≤ 1024 }
+    requires room { room ≤ vec_capacity strays.old }
+    requires count { vec_len strays.old ≤ room }
+    ensures strays { IsTrue result → AreStraysOf subject.now.frame subject.now.rising subject.now.chain.now subject.now.number subject.now.steps part.now strays.old.items (items_left walk.entry) strays.new.items }
+    ensures all { vec_len strays.old + length (items_left walk.entry) ≤ room → IsTrue result }
+    ensures count { vec_len strays.new ≤ room }
+    ensures capacity { vec_capacity strays.new ≡ vec_capacity strays.old }
+{
+    for (_, item) in walk {
+        if !push_within(strays, near_stray(subject, part, item), room) {
+            return false;
+        }
     }
+    true
+}
+
+// The item as a stray, where it belongs to another chain, or to none, and stands beside an edge of
+// the chain. None where it is not near an edge of the part.
+fn near_stray(subject: &Subject<'_>, part: &[Point], item: Item) -> Option<Stray>
+    requires several { 2 ≤ length subject.now.chain.now }
+    requires short { length subject.now.chain.now ≤ 1024 }
+    ensures some { IfSome result (IsStrayOf subject.now.frame subject.now.rising subject.now.chain.now subject.now.number item) }
+    ensures all { (s : ℕ) (hand : Hand) → RunsAlong subject.now.frame subject.now.rising subject.now.chain.now
+        → IsStrayItem subject.now.frame subject.now.rising subject.now.chain.now subject.now.number item s hand → IsNearSomeEdge subject.now.steps part.now item.at → result ≡ Some (stray s hand item.at) }
+{
+    if is_at_end(subject.chain, item.at) {
+        return None;
+    }
+    if !may_reach(part, subject.steps, item.at) {
+        return None;
+    }
+    stray_of(subject.chain, subject.frame, subject.rising, subject.number, item)
+}
+
+// Whether p is at an end of the chain, so that it is over no edge of it.
+fn is_at_end(chain: &[Point], p: Point) -> bool
+    requires { 2 ≤ length chain.now }
+    ensures { IsTrue result → (p ≡ vertex_at chain.now 0) ⊎ (p ≡ vertex_at chain.now (length chain.now - 1)) }
+{
+    p == chain[0] || p == chain[chain.len() - 1]
+}
+
+// Puts what was found at the end of the strays. False where there is no room for it.
+fn push_within(strays: &mut Vec<Stray>, found: Option<Stray>, room: usize) -> bool
+    requires room { room ≤ vec_capacity strays.old }
+    requires count { vec_len strays.old ≤ room }
+    ensures items { IsTrue result → strays.new.items ≡ strays.old.items ++ option_to_list found }
+    ensures full { result ≡ false → room ≤ vec_len strays.old }
+    ensures count { vec_len strays.new ≤ room }
+    ensures capacity { vec_capacity strays.new ≡ vec_capacity strays.old }
+{
+    let Some(stray) = found else {
+        return true;
+    };
+    if strays.len() >= room {
+        return false;
+    }
+    strays.push_reserved(stray);
+    true
 }

@@ -2,7 +2,6 @@
 #![tactic(auto)]
 
 mod beside;
-mod boxes;
 mod gather;
 mod laws;
 mod limits;

@@ -5,7 +5,7 @@ ghost use Rattle.grid_exact.specs.declared.frame.Frame.{Frame};
 ghost use Rattle.chain_side.specs.Along.{IsAlong};
 ghost use Rattle.lane_kernels.specs.Hands.{IsOnSide};
 ghost use Rattle.lane_kernels.specs.Places.{AreCoordinates, EachBetween, EachPlace};
-ghost use Rattle.side_wedge.specs.Limits.{IsWithinLimit, IsTighter, IsTightestOf};
+ghost use Rattle.side_wedge.specs.Limits.{AreCrossed, IsWithinLimit, IsTighter, IsTightestOf};
 
 use grid_exact::{Point, area};
 use lane_kernels::{Hand, first_off_side, point_at};
@@ -27,6 +27,16 @@ pub fn is_within(start: Point, v: Point, limit: Option<Point>, hand: Hand) -> bo
     match limit {
         None => true,
         Some(p) => is_on_hand(start, v, p, hand),
+    }
+}
+
+// Whether no way past the start has the left limit on its left and the right limit on its right.
+pub fn leaves_none(start: Point, left: Option<Point>, right: Option<Point>) -> bool
+    ensures { IsTrue result → (frame : Frame) (rising : Bool) → AreCrossed frame rising start left right }
+{
+    match (left, right) {
+        (Some(p), Some(q)) => !is_on_hand(start, q, p, Hand::Left),
+        _ => false,
     }
 }
 

@@ -7,7 +7,7 @@ ghost use Rattle.lane_kernels.specs.Places.{AreCoordinates, EachPlace};
 ghost use Rattle.side_wedge.specs.Lines.{IsAside, side_of};
 ghost use Rattle.side_wedge.specs.Limits.{is_along};
 
-use crate::limits::{is_within, tighter, tightest};
+use crate::limits::{is_within, leaves_none, tighter, tightest};
 use chain_side::Side;
 use grid_exact::{Frame, Point};
 use lane_kernels::Hand;
@@ -63,6 +63,13 @@ impl Wedge {
     {
         is_within(self.origin, v, self.left, Hand::Left)
             && is_within(self.origin, v, self.right, Hand::Right)
+    }
+
+    /// Whether no point past the start is let any more.
+    pub fn is_closed(&self) -> bool
+        ensures { IsTrue result → (v : Place) → IsPast self.now v → ¬ (Lets self.now v) }
+    {
+        leaves_none(self.origin, self.left, self.right)
     }
 
     // Takes each of the points with these coordinates, which must stay on this hand of a way from the start.

@@ -67,11 +67,11 @@ fn is_allowed(alloc: Global, map: &IndexedMap) -> Result<bool, Fail>
     let Ok(mut rows) = Rows::new(alloc) else {
         return Err(Fail::from("memory"));
     };
-    beside.load(map, 1);
     let Some(weights) = Weights::new(1, 1) else {
         return Err(Fail::from("weights"));
     };
     let bound = Bound::new(5).ok_or("a bound")?;
+    beside.load(map, 1, weights, bound);
     let places = map.chain(1);
     let xs = across(alloc, places)?;
     let ys = up(alloc, places)?;

@@ -7,7 +7,7 @@ ghost use Rattle.side_wedge.specs.Lines.{IsAside};
 use crate::parts::point;
 use arc_map::{ArcMap, NoMemory};
 use chain_side::{Side, comes_before};
-use grid_exact::{Frame, Point, on_segment};
+use grid_exact::{Bound, Frame, Point, Weights, on_segment};
 use map_index::IndexedMap;
 use monotone_split::split;
 use side_wedge::{Beside, Wedge};
@@ -51,7 +51,8 @@ fn wedges_admit_points(rt: HostRuntime) -> Result<(), Fail> {
     Ok(())
 }
 
-// A map of one arc over three points that rises to the right, and a feature point on neither of its edges.
+// A map of one arc over three points that rises to the right, and a feature point on neither of its
+// edges.
 fn bump(alloc: Global, a: Point, b: Point, c: Point, town: Point) -> Result<ArcMap, AllocError>
     requires rising { (a.x <ℤ b.x) × (b.x <ℤ c.x) }
     requires off { ¬ (IsOnSegment a b town) × ¬ (IsOnSegment b c town) }
@@ -63,8 +64,14 @@ fn bump(alloc: Global, a: Point, b: Point, c: Point, town: Point) -> Result<ArcM
     Ok(ArcMap::new(arcs, points, Vec::new(alloc), false))
 }
 
-// Which vertices of the first chain of an arranged map are past the first, and make a consistent pair with it.
-fn first_row(alloc: Global, map: ArcMap) -> Result<Vec<bool>, NoMemory>
+// Which vertices of the first chain of an arranged map are past the first, and make a consistent
+// pair with it where what is skipped is within the bound.
+fn first_row(
+    alloc: Global,
+    map: ArcMap,
+    weights: Weights,
+    bound: Bound,
+) -> Result<Vec<bool>, NoMemory>
     requires { IsMapArrangedBeside [] map }
 {
     let chains = split(alloc, &map)?;
@@ -74,7 +81,7 @@ fn first_row(alloc: Global, map: ArcMap) -> Result<Vec<bool>, NoMemory>
         return Ok(Vec::new(alloc));
     }
     let mut row = vec![in alloc; true; map.chain(0).len()]?;
-    beside.load(&map, 0);
+    beside.load(&map, 0, weights, bound);
     beside.consistent_from(&map, 0, 0, &mut row);
     Ok(row)
 }
@@ -87,7 +94,9 @@ fn may_be_flat(rt: &impl Abort, alloc: Global, town: Point) -> Result<bool, Fail
     assert!(rt; !on_segment(a, b, town));
     assert!(rt; !on_segment(b, c, town));
     let map = bump(alloc, a, b, c, town)?;
-    let Ok(row) = first_row(alloc, map) else {
+    let weights = Weights::new(1, 1).ok_or("weights")?;
+    let bound = Bound::new(2).ok_or("a bound")?;
+    let Ok(row) = first_row(alloc, map, weights, bound) else {
         return Err(Fail::from("memory"));
     };
     assert!(rt; row.len() == 3);

@@ -9,7 +9,7 @@ use Rattle.shortcut_graph.proofs.Numbers.{length-chain_places}
 use Rattle.shortcut_graph.proofs.AllowedPairs.{allowed_pair}
 use Rattle.side_wedge.proofs.ByEdges.{consistency_by_edges_lem}
 use Rattle.shortcut_graph.proofs.Filling.{filled_more, told}
-use Rattle.shortcut_graph.proofs.Marking.{told_past}
+use Rattle.shortcut_graph.proofs.Near.{near_run}
 use Rattle.shortcut_graph.proofs.pairs.fill.Goals as goal
 
 pub loop-start-preserved : goal.loop-start-preserved
@@ -31,6 +31,7 @@ loop-start-preserved c =
           (λ j sj jm.
           let within : j < length row = omega arith in
           told (HasBit c.set_row.new.rows start j) (j ≡ start + 1) (IsTrue (get_or row j false)) (IsNearRun xs ys bound start j) (IsOpenPair chains points k start j) (IsAllowedPair (IsWithinBound weights.x weights.y bound) chains points k start j)
-          (c.set_row.ensures.row j sj within) (told_past start (IsOpenPair chains points k start) row j c.mark_open.ensures sj within)
+          (c.set_row.ensures.row j sj within) (c.mark_open.ensures.opens j sj within)
+          (λ t near. c.mark_open.ensures.near weights bound c.requires.reach j sj within t ((near_run weights chain xs ys bound start j c.requires.weighed sj jm).1 near))
           (allowed_pair consistency_by_edges_lem weights bound chains points xs ys k start j c.requires.beside.edges c.requires.weighed sj jm)) c.loop-start.invariant.filled;
     }

@@ -4,7 +4,7 @@ use Rattle.std.proofs.lemmas.List.{get_or_read}
 use Rattle.grid_exact.specs.Geometry.{Place}
 use Rattle.chain_side.specs.Along.{IsAlong, vertex_at}
 use Rattle.side_wedge.specs.Wedge.{Lets}
-use Rattle.side_wedge.proofs.Narrowing.{past_of, starts_still, lets_more, told_more}
+use Rattle.side_wedge.proofs.Narrowing.{past_of, starts_still, lets_more, told_more, told_closed}
 use Rattle.side_wedge.proofs.beside.Beside.write_row.Goals as goal
 
 pub narrow-requires-clause-past : goal.narrow-requires-clause-past
@@ -52,3 +52,19 @@ pub returns-clause-told : goal.returns-clause-told
 returns-clause-told c j low high =
     let h = c.loop-edge.invariant in
     h.told j low (omega (arith, high, h.count, c.requires.row, c.loop-edge-test.false))
+
+pub returns-then-is_closed-clause-told : goal.returns-then-is_closed-clause-told
+returns-then-is_closed-clause-told c j low high =
+    let b = c.args.self.now in
+    let edge = c.loop-edge.edge in
+    let chain = c.args.chain.now in
+    let frame = c.args.frame in let rising = c.args.rising in let i = c.args.i in
+    let start = vertex_at chain i in
+    let h = c.loop-edge.invariant in
+    let now = starts_still c.loop-edge.wedge c.narrow.new.wedge frame rising start h.origin c.narrow.ensures.origin in
+    let lets = lets_more b frame rising start i edge c.loop-edge.wedge c.narrow.new.wedge h.reached h.origin now h.lets c.narrow.ensures.lets in
+    let within : j < length chain = omega (arith, high, c.clear_from.ensures.length, h.count, c.requires.row) in
+    told_closed b frame rising chain i edge j c.narrow.new.wedge c.loop-edge.row c.clear_from.new.row c.requires.runs now lets (c.is_closed.ensures c.if-is_closed.true) h.told c.clear_from.ensures.before c.clear_from.ensures.clear low within high
+
+pub returns-then-is_closed-clause-before : goal.returns-then-is_closed-clause-before
+returns-then-is_closed-clause-before c j early = c.clear_from.ensures.before j (omega (arith, early, c.loop-edge.invariant.reached)) ∙ c.loop-edge.invariant.before j early

@@ -1,0 +1,5 @@
+pub mod Reach
+pub mod Steps
+pub mod Extents
+pub mod Blocks
+pub mod Laws

@@ -1,0 +1,76 @@
+//! Blocks of edges of a walk, each with the box in which what is near them is looked for.
+ghost use Rattle.std.specs.Prelude.{◌+◌, ◌<◌, ◌≤◌, IsTrue, length};
+ghost use Rattle.chain_reach.specs.Blocks.{AreFoundIn};
+ghost use Rattle.chain_reach.specs.Steps.{IsNearSomeEdge};
+
+use crate::extent::Extent;
+use crate::steps::{Steps, reaches};
+use grid_exact::Point;
+
+// How many edges a block has.
+const BLOCK: usize = 8;
+
+/// How many edges to look round at once, where the box `whole` is round the walk: a few, or all of
+/// them where boxes round a few would not be much smaller together.
+pub fn block_size(walk: &[Point], steps: Steps, whole: &Extent) -> usize
+    requires { 2 ≤ length walk.now }
+    ensures { 0 < result }
+{
+    if walk.len() <= BLOCK + 1 || size_of_blocks(walk, steps, whole) < whole.size() / 2 {
+        BLOCK
+    } else {
+        walk.len()
+    }
+}
+
+// The sizes of the boxes round the blocks in sum.
+fn size_of_blocks(walk: &[Point], steps: Steps, whole: &Extent) -> u64
+    requires { 2 ≤ length walk.now }
+{
+    let mut sum: u64 = 0;
+    let mut start = 0;
+    while start + 1 < walk.len() {
+        let end = block_end(walk, start, BLOCK);
+        sum = sum.saturating_add(block_round(walk, start, end, steps, whole).size());
+        start = end;
+    }
+    sum
+}
+
+/// The number of the last place of the block of so many edges that begins at the place number
+/// `start`, or of the walk's last place.
+pub fn block_end(walk: &[Point], start: usize, size: usize) -> usize
+    requires start { start + 1 < length walk.now }
+    requires size { 0 < size }
+    ensures past { start < result }
+    ensures within { result < length walk.now }
+{
+    start.saturating_add(size).min(walk.len() - 1)
+}
+
+/// The box round the places of the walk from the number `start` to the number `end`, grown by the
+/// steps, as far as the box `whole` goes.
+pub fn block_round(
+    walk: &[Point],
+    start: usize,
+    end: usize,
+    steps: Steps,
+    whole: &Extent,
+) -> Extent
+    requires order { start ≤ end }
+    requires within { end < length walk.now }
+    ensures { AreFoundIn walk.now start end steps whole.now result }
+{
+    Extent::round(&walk[start..end + 1]).grown_within(steps, whole)
+}
+
+/// Whether p may be near an edge of the walk. A walk longer than a block is not looked through: the
+/// answer is then true.
+pub fn may_reach(walk: &[Point], steps: Steps, p: Point) -> bool
+    ensures { IsNearSomeEdge steps walk.now p → IsTrue result }
+{
+    if walk.len() > BLOCK + 1 {
+        return true;
+    }
+    reaches(walk, steps, p)
+}
