@@ -72,7 +72,7 @@ fn take_blocks(
     requires several { 2 ≤ length subject.now.chain.now }
     requires short { length subject.now.chain.now ≤ 1024 }
     requires room { items_in map.now ≤ vec_capacity strays.old }
-    requires box { All (IsInBox whole.now.low whole.now.high) subject.now.chain.now }
+    requires round { All (IsInBox whole.now.low whole.now.high) subject.now.chain.now }
     requires size { 0 < size }
     ensures strays { IsTrue result → AreMapStrays subject.now.frame subject.now.rising subject.now.chain.now subject.now.number subject.now.steps map.now strays.new.items }
     ensures count { vec_len strays.new ≤ items_in map.now }
@@ -104,7 +104,7 @@ fn take_block(
     requires short { length subject.now.chain.now ≤ 1024 }
     requires room { items_in map.now ≤ vec_capacity strays.old }
     requires count { vec_len strays.old ≤ items_in map.now }
-    requires box { All (IsInBox whole.now.low whole.now.high) subject.now.chain.now }
+    requires round { All (IsInBox whole.now.low whole.now.high) subject.now.chain.now }
     requires order { start < end }
     requires within { end < length subject.now.chain.now }
     ensures strays { IsTrue result → AreStraysTo subject.now.frame subject.now.rising subject.now.chain.now subject.now.number subject.now.steps map.now start strays.old.items
@@ -127,7 +127,7 @@ fn take_whole(
     requires several { 2 ≤ length subject.now.chain.now }
     requires short { length subject.now.chain.now ≤ 1024 }
     requires room { items_in map.now ≤ vec_capacity strays.old }
-    requires box { All (IsInBox whole.now.low whole.now.high) subject.now.chain.now }
+    requires round { All (IsInBox whole.now.low whole.now.high) subject.now.chain.now }
     ensures strays { AreMapStrays subject.now.frame subject.now.rising subject.now.chain.now subject.now.number subject.now.steps map.now strays.new.items }
     ensures count { vec_len strays.new ≤ items_in map.now }
     ensures capacity { vec_capacity strays.new ≡ vec_capacity strays.old }
@@ -150,7 +150,7 @@ fn collect(
     requires room { room ≤ vec_capacity strays.old }
     requires count { vec_len strays.old ≤ room }
     ensures strays { IsTrue result → AreStraysOf subject.now.frame subject.now.rising subject.now.chain.now subject.now.number subject.now.steps part.now strays.old.items (items_left walk.entry) strays.new.items }
-    ensures all { vec_len strays.old + length (items_left walk.entry) ≤ room → IsTrue result }
+    ensures all { length strays.old.items + length (items_left walk.entry) ≤ room → IsTrue result }
     ensures count { vec_len strays.new ≤ room }
     ensures capacity { vec_capacity strays.new ≡ vec_capacity strays.old }
 {
@@ -185,7 +185,20 @@ fn is_at_end(chain: &[Point], p: Point) -> bool
     requires { 2 ≤ length chain.now }
     ensures { IsTrue result → (p ≡ vertex_at chain.now 0) ⊎ (p ≡ vertex_at chain.now (length chain.now - 1)) }
 {
-    p == chain[0] || p == chain[chain.len() - 1]
+    is_either(p, chain[0], chain[chain.len() - 1])
+}
+
+// Whether p is a or b.
+fn is_either(p: Point, a: Point, b: Point) -> bool
+    ensures { IsTrue result → (p ≡ a) ⊎ (p ≡ b) }
+{
+    if p == a {
+        return true;
+    }
+    if p == b {
+        return true;
+    }
+    false
 }
 
 // Puts what was found at the end of the strays. False where there is no room for it.
@@ -193,7 +206,7 @@ fn push_within(strays: &mut Vec<Stray>, found: Option<Stray>, room: usize) -> bo
     requires room { room ≤ vec_capacity strays.old }
     requires count { vec_len strays.old ≤ room }
     ensures items { IsTrue result → strays.new.items ≡ strays.old.items ++ option_to_list found }
-    ensures full { result ≡ false → room ≤ vec_len strays.old }
+    ensures full { result ≡ false → room ≤ length strays.old.items }
     ensures count { vec_len strays.new ≤ room }
     ensures capacity { vec_capacity strays.new ≡ vec_capacity strays.old }
 {

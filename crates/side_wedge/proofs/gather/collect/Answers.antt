@@ -1,13 +1,21 @@
 -- One item more.
-use Rattle.std.proofs.Common.{ℕ, ◌∙◌, append-nil, refl, subst, List, arith, rules}
+use Rattle.std.proofs.Common.{ℕ, ◌∙◌, ap, refl, sym, arith}
 use Rattle.sweep_index.specs.Walk.{items_left}
 use Rattle.sweep_index.specs.declared.index.Item.{Item}
-use Rattle.side_wedge.specs.Gathered.{AreStraysOf}
 use Rattle.side_wedge.proofs.Gathering.{strays_start, strays_more, one_behind, one_counted, no_room}
 use Rattle.side_wedge.proofs.gather.collect.Goals as goal
 
 pub loop-item-init : goal.loop-item-init
-loop-item-init c = ?
+loop-item-init c =
+    let s = c.args.subject.now in (
+      tt,
+      tt,
+      ap items_left (sym c.into_iter-item-iterator.ensures.into_iter_gives),
+      omega arith,
+      c.requires.count,
+      refl,
+      strays_start s.frame s.rising s.chain.now s.number s.steps c.args.part.now c.args.strays.now.items,
+    )
 
 pub loop-item-preserved : goal.loop-item-preserved
 loop-item-preserved c =

@@ -1,5 +1,5 @@
 -- What is near the edges so far is taken.
-use Rattle.std.proofs.Common.{◌≡◌, ◌<◌, ◌≤◌, ◌-◌, length, vec_capacity}
+use Rattle.std.proofs.Common.{◌≡◌, ◌<◌, ◌≤◌, ◌-◌, length, vec_len, vec_capacity}
 use Rattle.map_index.specs.IndexedMap.{items_in}
 use Rattle.side_wedge.specs.Gathered.{AreStraysTo}
 use Rattle.side_wedge.proofs.gather.take_blocks.Given as goal
@@ -8,7 +8,7 @@ abbrev pub invariant-loop-start : goal.invariant-loop-start
 invariant-loop-start l = record {
   within : l.start < length l.subject.chain.now;
   taken : AreStraysTo l.subject.frame l.subject.rising l.subject.chain.now l.subject.number l.subject.steps l.map l.start l.strays.items;
-  count : length l.strays.items ≤ items_in l.map;
+  count : vec_len l.strays ≤ items_in l.map;
   capacity : vec_capacity l.strays ≡ vec_capacity l.fn.strays;
 }
 
