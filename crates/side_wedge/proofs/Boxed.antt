@@ -18,6 +18,9 @@ use Rattle.side_wedge.specs.Flanks.IsBeyond.{West, East, South, North}
 pub passed : (z : ℤ) → IsGridNumber z → to_z w64 (of_z w64 z) ≡ z
 passed z g = to_z-of_z w64 z (grid_fits z g)
 
+pub passed_on_grid : (z : ℤ) → IsGridNumber z → IsGridNumber (to_z w64 (of_z w64 z))
+passed_on_grid z g = subst IsGridNumber (sym (passed z g)) g
+
 -- ---- outside
 
 -- a place is in the box, or on one axis all that is in the box lies on one side of it

@@ -1,5 +1,6 @@
 -- Only the pair of the first and the last vertex can have a double edge.
-use Rattle.std.proofs.Common.{◌≡◌, ◌∙◌, suc, ◌-◌, ◌≤◌, length, ap, arith}
+use Rattle.std.proofs.Common.{◌≡◌, ◌∙◌, suc, ◌-◌, ◌≤◌, false, length, ap, arith}
+use Rattle.std.proofs.lemmas.List.{length-set}
 use Rattle.arc_map.specs.Chains.{chain_at}
 use Rattle.side_wedge.specs.Obstacles.{IsConsistentPair}
 use Rattle.shortcut_graph.proofs.Numbers.{length-chain_places}
@@ -17,7 +18,7 @@ returns-then-is_doubled c =
     record {
       opens = tells.there;
       near = λ weights bound holds j past within t near. tells.back j past within t weights bound holds near;
-      length = ?;
+      length = length-set row (length c.chain.result.now - 1) false ∙ told.length;
     }
 
 pub returns-else-start-eq0 : goal.returns-else-start-eq0
