@@ -31,14 +31,7 @@ struct Run<'a> {
 // between the vertices number `i` and `j` become the segment between the two. What is skipped is
 // within the bound of the segment, so only what stands within twice the bound of the run is looked
 // at.
-pub fn is_open(
-    map: &IndexedMap,
-    k: u32,
-    i: usize,
-    j: usize,
-    weights: Weights,
-    bound: Bound,
-) -> bool
+pub fn is_open(map: &IndexedMap, k: u32, i: usize, j: usize, weights: Weights, bound: Bound) -> bool
     requires chain { k < length map.now.chains }
     requires clear { IsClearIn map.now.chains map.now.read.points k }
     requires order { i < j }

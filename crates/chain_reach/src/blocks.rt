@@ -50,13 +50,7 @@ pub fn block_end(walk: &[Point], start: usize, size: usize) -> usize
 
 /// The box round the places of the walk from the number `start` to the number `end`, grown by the
 /// steps, as far as the box `whole` goes.
-pub fn block_round(
-    walk: &[Point],
-    start: usize,
-    end: usize,
-    steps: Steps,
-    whole: &Extent,
-) -> Extent
+pub fn block_round(walk: &[Point], start: usize, end: usize, steps: Steps, whole: &Extent) -> Extent
     requires order { start ≤ end }
     requires within { end < length walk.now }
     ensures { AreFoundIn walk.now start end steps whole.now result }

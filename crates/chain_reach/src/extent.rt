@@ -114,7 +114,11 @@ fn raised(place: Point, steps: Steps, ceiling: Point) -> Point
     ensures across { (z : ℤ) → (z ≤ℤ result.x) ↔ ((z ≤ℤ ceiling.x) × (z ≤ℤ (place.x +ℤ pos steps.across))) }
     ensures up { (z : ℤ) → (z ≤ℤ result.y) ↔ ((z ≤ℤ ceiling.y) × (z ≤ℤ (place.y +ℤ pos steps.up))) }
 {
-    Point::new(right_of(place, steps, ceiling), above(place, steps, ceiling)).unwrap()
+    Point::new(
+        right_of(place, steps, ceiling),
+        above(place, steps, ceiling),
+    )
+    .unwrap()
 }
 
 fn left_of(place: Point, steps: Steps, floor: Point) -> i64
@@ -138,7 +142,11 @@ fn right_of(place: Point, steps: Steps, ceiling: Point) -> i64
     ensures value { (z : ℤ) → (z ≤ℤ result) ↔ ((z ≤ℤ ceiling.x) × (z ≤ℤ (place.x +ℤ pos steps.across))) }
 {
     let right = place.x() + i64::from(steps.across);
-    if right > ceiling.x() { ceiling.x() } else { right }
+    if right > ceiling.x() {
+        ceiling.x()
+    } else {
+        right
+    }
 }
 
 fn above(place: Point, steps: Steps, ceiling: Point) -> i64
@@ -146,5 +154,9 @@ fn above(place: Point, steps: Steps, ceiling: Point) -> i64
     ensures value { (z : ℤ) → (z ≤ℤ result) ↔ ((z ≤ℤ ceiling.y) × (z ≤ℤ (place.y +ℤ pos steps.up))) }
 {
     let high = place.y() + i64::from(steps.up);
-    if high > ceiling.y() { ceiling.y() } else { high }
+    if high > ceiling.y() {
+        ceiling.y()
+    } else {
+        high
+    }
 }

@@ -114,16 +114,17 @@ fn take_block(
 {
     let block = block_round(subject.chain, start, end, subject.steps, whole);
     let part = &subject.chain[start..end + 1];
-    collect(strays, subject, part, map.item_count(), map.in_box(block.low, block.high))
+    collect(
+        strays,
+        subject,
+        part,
+        map.item_count(),
+        map.in_box(block.low, block.high),
+    )
 }
 
 // Leaves what is near the edges of the chain, found in the box round it. No item is taken twice.
-fn take_whole(
-    strays: &mut Vec<Stray>,
-    subject: &Subject<'_>,
-    map: &IndexedMap,
-    whole: &Extent,
-)
+fn take_whole(strays: &mut Vec<Stray>, subject: &Subject<'_>, map: &IndexedMap, whole: &Extent)
     requires several { 2 ≤ length subject.now.chain.now }
     requires short { length subject.now.chain.now ≤ 1024 }
     requires room { items_in map.now ≤ vec_capacity strays.old }
@@ -133,7 +134,13 @@ fn take_whole(
     ensures capacity { vec_capacity strays.new ≡ vec_capacity strays.old }
 {
     strays.clear();
-    let _all = collect(strays, subject, subject.chain, map.item_count(), map.in_box(whole.low, whole.high));
+    let _all = collect(
+        strays,
+        subject,
+        subject.chain,
+        map.item_count(),
+        map.in_box(whole.low, whole.high),
+    );
 }
 
 // Takes of the items of the walk those that stand beside edges of the chain: each at least that is
@@ -177,7 +184,13 @@ fn near_stray(subject: &Subject<'_>, part: &[Point], item: Item) -> Option<Stray
     if !may_reach(part, subject.steps, item.at) {
         return None;
     }
-    stray_of(subject.chain, subject.frame, subject.rising, subject.number, item)
+    stray_of(
+        subject.chain,
+        subject.frame,
+        subject.rising,
+        subject.number,
+        item,
+    )
 }
 
 // Whether p is at an end of the chain, so that it is over no edge of it.

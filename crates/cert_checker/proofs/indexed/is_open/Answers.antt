@@ -40,6 +40,6 @@ returns c =
     let whole = run_whole ps i j first c.requires.order size c.index-chain-i.is in
     let told = c.of-run.ensures in (
       λ t. open_from_tests w k i j first rest c.chain-chain.ensures.chains c.requires.clear c.requires.order c.requires.within parts (λ d. iff_false c.is_double.ensures c.if-is_double.false ((double_read w.chains k i j _ _ start end).1 d))
-      (λ owner p owns other. run_consistent chain.frame c.args.weights c.args.bound c.of-run.result chain.first.place (places chain.rest) i j first rest _ p (record { across = told.across; up = told.up; weight_across = told.in_range.0; weight_up = told.in_range.1; bound_low = told.in_range.2 }) (c.chain-chain.ensures.chains.monotone k) c.requires.order (omega (arith, c.requires.within, places_count (chain_at w.chains k))) parts whole c.requires.near (c.is_free.ensures.near t owner p owns other)),
+          (λ owner p owns other. run_consistent chain.frame c.args.weights c.args.bound c.of-run.result chain.first.place (places chain.rest) i j first rest _ p (record { across = told.across; up = told.up; weight_across = told.in_range.0; weight_up = told.in_range.1; bound_low = told.in_range.2 }) (c.chain-chain.ensures.chains.monotone k) c.requires.order (omega (arith, c.requires.within, places_count (chain_at w.chains k))) parts whole c.requires.near (c.is_free.ensures.near t owner p owns other)),
       λ o. c.is_free.ensures.all (λ owner p owns other. subst (λ qs. IsConsistentRun qs p) (sym whole) (tests_from_open w k i j first rest c.chain-chain.ensures.edges parts o owner p owns other)),
     )
