@@ -13,9 +13,10 @@ ghost use Rattle.top_call.specs.Endings.{IsMapStatus};
 use crate::forms::Options;
 use crate::status::Status;
 use arc_map::ArcMap;
-use arrangement_check::{Partly, check, hold};
+use arrangement_check::Partly;
 use grid_exact::{Point, Weights};
 use json_scan::scan;
+use plane_sweep::{check_map, hold_map};
 use std::alloc::Global;
 use topo_reader::{Span, Topology, read};
 
@@ -90,9 +91,9 @@ fn arranged(alloc: Global, hold_arcs: bool, map: ArcMap) -> Result<Partly, Statu
     ensures refused { IfErr result (λ s. (s ≡ Status.NoMemory) ⊎ IsUnarranged hold_arcs map s) }
 {
     if hold_arcs {
-        return Ok(hold(alloc, map)?);
+        return Ok(hold_map(alloc, map)?);
     }
-    let arranged = check(alloc, map)?;
+    let arranged = check_map(alloc, map)?;
     Ok(Partly::whole(alloc, arranged))
 }
 
