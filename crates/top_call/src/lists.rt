@@ -32,7 +32,7 @@ fn cut(list: &str) -> (&str, Option<&str>)
 // Whether a word is a list of rising numbers, each at most `most`: one, and no more than there is
 // room for.
 fn is_list(list: &str, most: u32, room: u32) -> bool
-    requires { most < 2 ^ 32 - 1 }
+    requires { most < 2 ^ 31 }
     ensures { result ≡ is_list most room list.now }
 {
     let mut least = 0;
