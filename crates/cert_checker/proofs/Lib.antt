@@ -4,6 +4,7 @@ pub mod Steps
 pub mod Parts
 pub mod Pairs
 pub mod Nearby
+pub mod Boxes
 pub mod Accepting
 pub mod Holding
 pub mod Sound

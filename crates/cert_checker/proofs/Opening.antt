@@ -1,5 +1,5 @@
 -- What the chain ends and the items in a box say of the rest of the map.
-use Rattle.std.proofs.Common.{◌≡◌, ◌∙◌, ◌↔◌, ◌+◌, ◌<◌, ◌≤◌, ℕ, zero, suc, ℤ, pos, ◌≤ℤ◌, Bool, IsTrue, true, List, [], ◌∷◌, ◌++◌, ◌<ℤ◌, ◌-◌, length, get_or, take, drop, sym, ap, subst, refl, arith, inl, inr}
+use Rattle.std.proofs.Common.{◌≡◌, ◌∙◌, ◌↔◌, ◌+◌, ◌<◌, ◌≤◌, ℕ, zero, suc, true, List, [], ◌∷◌, ◌++◌, ◌<ℤ◌, length, get_or, sym, ap, subst, refl, arith, inl, inr}
 use Rattle.std.specs.Prelude.{◌≢◌, ◌⊎◌, All, Contains, int_le}
 use Rattle.std.specs.List.{between}
 use Rattle.std.proofs.lemmas.Bool.{and_from}
@@ -29,22 +29,9 @@ use Rattle.sweep_index.specs.Box.{is_from_to, is_in_box}
 use Rattle.sweep_index.specs.declared.index.Item.{Item}
 use Rattle.sweep_index.specs.declared.index.Owner.{Owner}
 use Rattle.sweep_index.specs.declared.index.Owner.TheVariants.{Town, Chain as OfChain}
-use Rattle.chain_reach.specs.Blocks.{AreFoundIn}
-use Rattle.chain_reach.specs.Extents.{IsInBox}
-use Rattle.chain_reach.specs.Steps.{IsNearEdge, IsNearSomeEdge}
-use Rattle.grid_exact.specs.declared.frame.Frame.{Frame}
-use Rattle.grid_exact.specs.Near.{IsNear}
-use Rattle.grid_exact.specs.Runs.{IsMonotone}
-use Rattle.grid_exact.specs.Weights.{Scales}
-use Rattle.arc_map.specs.Chains.{IsWithinBound}
-use Rattle.chain_reach.specs.declared.extent.Extent.{Extent}
-use Rattle.chain_reach.specs.declared.steps.Steps.{Steps}
-use Rattle.chain_reach.specs.Steps.{AreStepsOf}
-use Rattle.chain_reach.proofs.Numbered.{near_in_part, near_some_edge}
-use Rattle.chain_reach.proofs.Pairs.{monotone_between, only_reach_of_run}
-use Rattle.cert_checker.specs.Indexed.{IsDouble, IsConsistentRun, ItemLets, NearItemLets, OthersAre}
+use Rattle.cert_checker.specs.Indexed.{IsDouble, ItemLets}
 use Rattle.cert_checker.specs.Open.{IsOpenPair, Joins}
-use Rattle.cert_checker.specs.Runs.{place_at, run_end, run_inner}
+use Rattle.cert_checker.specs.Runs.{IsInBox, place_at, run_end, run_inner}
 use Rattle.cert_checker.proofs.Beyond.{IsOn, Over, Side, ToTheLeft, ToTheRight, Under, beyond_even, beyond_off}
 use Rattle.cert_checker.proofs.Pairs.{edge_by_number, joined_edge}
 use Rattle.cert_checker.proofs.Parts.{RunParts, place_of_vertex, places_count, split_last}
@@ -58,7 +45,7 @@ data Outside (low high p : Place) : Type 0 where
   South : p.y <ℤ low.y → Outside low high p
   North : high.y <ℤ p.y → Outside low high p
 
-in_or_outside : (low high p : Place) → IsInBox low high p ⊎ Outside low high p
+in_or_outside : (low high p : Place) → (is_in_box low high p ≡ true) ⊎ Outside low high p
 in_or_outside low high p = elim (at_most_or_above low.x p.x) [
   | inr west ↦ inr (West west)
   | inl from_west ↦ elim (at_most_or_above p.x high.x) [
@@ -67,18 +54,11 @@ in_or_outside low high p = elim (at_most_or_above low.x p.x) [
       | inr south ↦ inr (South south)
       | inl from_south ↦ elim (at_most_or_above p.y high.y) [
         | inr north ↦ inr (North north)
-        | inl to_north ↦ inl (record { from_low = record { across = from_west; up = from_south }; to_high = record { across = to_east; up = to_north } })
+        | inl to_north ↦ inl (and_from (is_from_to low.x high.x p.x) (is_from_to low.y high.y p.y) (and_from (int_le low.x p.x) (int_le p.x high.x) (le_yes low.x p.x from_west) (le_yes p.x high.x to_east)) (and_from (int_le low.y p.y) (int_le p.y high.y) (le_yes low.y p.y from_south) (le_yes p.y high.y to_north)))
       ]
     ]
   ]
 ]
-
--- as the index tests it
-in_box_tested : (low high p : Place) → IsInBox low high p → is_in_box low high p ≡ true
-in_box_tested low high p h =
-    and_from (is_from_to low.x high.x p.x) (is_from_to low.y high.y p.y)
-    (and_from (int_le low.x p.x) (int_le p.x high.x) (le_yes low.x p.x h.from_low.across) (le_yes p.x high.x h.to_high.across))
-    (and_from (int_le low.y p.y) (int_le p.y high.y) (le_yes low.y p.y h.from_low.up) (le_yes p.y high.y h.to_high.up))
 
 abbrev side_of : (low high p : Place) → Outside low high p → Side
 side_of low high p (West h) = ToTheLeft
@@ -119,55 +99,14 @@ outside_consistent low high first rest p some inside out =
 
 -- ---- items
 
--- p is at no edge of the run that is near, or does not change sides
-pub near_or_outside : (low high : Place) (steps : Steps) (run : List Place) (p : Place) → 1 < length run → All (IsInBox low high) run → (IsInBox low high p → IsNearSomeEdge steps run p → IsConsistentRun run p) → IsNearSomeEdge steps run p → IsConsistentRun run p
-near_or_outside low high steps [] p some inside lets near = absurd (omega arith)
-near_or_outside low high steps (first ∷ rest) p some inside lets near = elim (in_or_outside low high p) [
-  | inr out ↦ outside_consistent low high first rest p (omega arith) inside out
-  | inl box ↦ lets box near
+-- each owner's place does not change sides, where the items in the box do not
+owned_consistent : (w : Work) (found : List (ℕ × Item)) (k : ℕ) (low high first : Place) (rest : List Place) → AreItemsIn w low high found → 0 < length rest → All (IsInBox low high) (first ∷ rest) → All (ItemLets k first (run_inner rest) (run_end first rest)) found → (owner : Owner) (p : Place) → Owns w.chains w.read.points owner p → IsOther k owner → IsConsistent first (run_end first rest) (run_inner rest) p
+owned_consistent w found k low high first rest are some inside lets owner p owns other = elim (in_or_outside low high p) [
+  | inr out ↦ outside_consistent low high first rest p some inside out
+  | inl box ↦
+      let there = are.all owner p owns box in
+      All-contains (ItemLets k first (run_inner rest) (run_end first rest)) found (there.0, item_of owner p) lets there.1 other
 ]
-
--- the items in the box round a block tell of what is near the block
-pub block_tells : (w : Work) (found : List (ℕ × Item)) (k : ℕ) (steps : Steps) (run : List Place) (whole block : Extent) (start end edge : ℕ) → AreItemsIn w block.low block.high found → AreFoundIn run start end steps whole block → end < length run → All (NearItemLets k steps (take (end + 1 - start) (drop start run)) run) found → start ≤ edge → edge < end → OthersAre w k (λ p. IsInBox whole.low whole.high p → IsNearEdge steps run p edge → IsConsistentRun run p)
-block_tells w found k steps run whole block start end edge items in_block within lets low high owner p owns other inside near =
-    let there = items.all owner p owns (in_box_tested block.low block.high p (in_block edge p low high near inside)) in
-    All-contains (NearItemLets k steps (take (end + 1 - start) (drop start run)) run) found (there.0, item_of owner p) lets there.1 other (near_in_part steps run p start end edge within low high near)
-
--- where nothing changes sides, no item does
-pub items_all_let : (w : Work) (found : List (ℕ × Item)) (k : ℕ) (run : List Place) (low high : Place) → AreItemsIn w low high found → OthersAre w k (IsConsistentRun run) → All (ItemLets k run) found
-items_all_let w found k run low high items others =
-    All-weaker (Contains found) (ItemLets k run) (λ e has other. others e.1.owner e.1.at (items.only e.0 e.1 has) other) found (All-contains_itself found)
-
--- ---- runs
-
--- the run by its first place and the rest
-pub run_by_parts : (run : List Place) (first p : Place) (t : Bool) → 0 < length run → first ≡ get_or run 0 first → (IsTrue t ↔ IsConsistent first (run_end first (drop 1 run)) (run_inner (drop 1 run)) p) → IsTrue t ↔ IsConsistentRun run p
-run_by_parts [] first p t some read says = absurd (omega arith)
-run_by_parts (v ∷ vs) first p t some read says = subst (λ (x : Place). IsTrue t ↔ IsConsistent x (run_end x vs) (run_inner vs) p) read says
-
--- the steps are those of the weights and the bound, which are in their ranges
-pub record AreReaching (weights : Scales) (bound : ℤ) (steps : Steps) : Type 0 where
-  pub across : AreStepsOf weights.x bound steps.across
-  pub up : AreStepsOf weights.y bound steps.up
-  pub weight_across : pos 1 ≤ℤ weights.x
-  pub weight_up : pos 1 ≤ℤ weights.y
-  pub bound_low : pos 0 ≤ℤ bound
-
--- of a run with what it skips within the bound, what does not change sides where it is near the run does not change sides
-pub run_consistent : (frame : Frame) (weights : Scales) (bound : ℤ) (steps : Steps) (v : Place) (ws : List Place) (i j : ℕ) (first : Place) (rest run : List Place) (p : Place) → AreReaching weights bound steps → IsMonotone frame v ws → i < j → j < length (v ∷ ws) → RunParts (v ∷ ws) i j first rest → run ≡ first ∷ rest → All (IsWithinBound weights.x weights.y bound (place_at (v ∷ ws) i) (place_at (v ∷ ws) j)) (between (i + 1) j (v ∷ ws)) → (IsNearSomeEdge steps run p → IsConsistentRun run p) → IsConsistent first (run_end first rest) (run_inner rest) p
-run_consistent frame weights bound steps v ws i j first rest run p r monotone order within parts whole near lets =
-    let Way : Place → List Place → Place → Type 0 = λ a inner b. IsMonotone frame a (inner ++ b ∷ []) in
-    let Near : Place → List Place → Place → Type 0 = λ a inner b. All (λ q. IsNear weights.x weights.y a b q bound) inner in
-    let by_parts = λ (P : Place → List Place → Place → Type 0) (h : P (place_at (v ∷ ws) i) (between (i + 1) j (v ∷ ws)) (place_at (v ∷ ws) j)).
-    subst (λ (a : Place). P a (run_inner rest) (run_end first rest)) (sym parts.start)
-    (subst (λ (b : Place). P (place_at (v ∷ ws) i) (run_inner rest) b) (sym parts.end)
-    (subst (λ (inner : List Place). P (place_at (v ∷ ws) i) inner (place_at (v ∷ ws) j)) (sym parts.inner) h)) in
-    only_reach_of_run frame weights.x weights.y first (run_end first rest) (run_inner rest) p bound r.weight_across r.weight_up r.bound_low
-    (by_parts Way (monotone_between frame v ws i j nowhere order within monotone)) (by_parts Near near)
-    (λ reach.
-    let there = near_some_edge weights.x weights.y bound steps p first (run_inner rest ++ run_end first rest ∷ []) r.weight_across r.weight_up r.across r.up reach in
-    subst (λ (qs : List Place). IsConsistentRun qs p) whole
-    (lets (subst (λ (qs : List Place). IsNearSomeEdge steps qs p) (sym whole) (subst (λ (qs : List Place). IsNearSomeEdge steps (first ∷ qs) p) (sym (split_last first rest parts.some)) there))))
 
 -- ---- double edges
 
@@ -219,9 +158,9 @@ joins_is_double chains points k i j l are clear order within known other joins =
 
 -- ---- what is open
 
--- no double, and nothing changes sides
-pub open_from_tests : (w : Work) (k i j : ℕ) (first : Place) (rest : List Place) → AreChains w.chains → IsClearIn w.chains w.read.points k → i < j → j ≤ length (chain_at w.chains k).rest → RunParts (chain_places (chain_at w.chains k)) i j first rest → ¬ (IsDouble w.chains k (place_at (chain_places (chain_at w.chains k)) i) (place_at (chain_places (chain_at w.chains k)) j)) → OthersAre w k (IsConsistent first (run_end first rest) (run_inner rest)) → IsOpenPair w.chains w.read.points k i j
-open_from_tests w k i j first rest are clear order within parts single lets =
+-- no double, and the items in the box let the run become the segment
+pub open_from_tests : (w : Work) (found : List (ℕ × Item)) (k i j : ℕ) (low high first : Place) (rest : List Place) → AreChains w.chains → IsClearIn w.chains w.read.points k → AreItemsIn w low high found → i < j → j ≤ length (chain_at w.chains k).rest → RunParts (chain_places (chain_at w.chains k)) i j first rest → All (IsInBox low high) (first ∷ rest) → ¬ (IsDouble w.chains k (place_at (chain_places (chain_at w.chains k)) i) (place_at (chain_places (chain_at w.chains k)) j)) → All (ItemLets k first (run_inner rest) (run_end first rest)) found → IsOpenPair w.chains w.read.points k i j
+open_from_tests w found k i j low high first rest are clear items order within parts inside single lets =
     let chains = w.chains in
     let points = w.read.points in
     let ps = chain_places (chain_at chains k) in
@@ -229,7 +168,7 @@ open_from_tests w k i j first rest are clear order within parts single lets =
     subst (λ v. IsConsistent v (place_at ps j) (between (i + 1) j ps) p) parts.start
     (subst (λ x. IsConsistent first x (between (i + 1) j ps) p) parts.end
     (subst (λ us. IsConsistent first (run_end first rest) us p) parts.inner
-    (lets owner p owns other))) in
+    (owned_consistent w found k low high first rest items parts.some inside lets owner p owns other))) in
     record {
       towns = All-weaker (Contains points) (IsConsistent (place_at ps i) (place_at ps j) (between (i + 1) j ps)) (λ p has. owned Town p has tt) points (All-contains_itself points);
       others = λ l known other some. record {
@@ -239,12 +178,13 @@ open_from_tests w k i j first rest are clear order within parts single lets =
     }
 
 -- and the other way round
-pub tests_from_open : (w : Work) (k i j : ℕ) (first : Place) (rest : List Place) → All (λ chain. 0 < length chain.rest) w.chains → RunParts (chain_places (chain_at w.chains k)) i j first rest → IsOpenPair w.chains w.read.points k i j → OthersAre w k (IsConsistent first (run_end first rest) (run_inner rest))
-tests_from_open w k i j first rest edges parts is_open owner p owns other =
-    subst (λ v. IsConsistent v (run_end first rest) (run_inner rest) p) (sym parts.start)
-    (subst (λ x. IsConsistent (place_at (chain_places (chain_at w.chains k)) i) x (run_inner rest) p) (sym parts.end)
-    (subst (λ us. IsConsistent (place_at (chain_places (chain_at w.chains k)) i) (place_at (chain_places (chain_at w.chains k)) j) us p) (sym parts.inner)
-    (owned owner p owns other)))
+pub tests_from_open : (w : Work) (found : List (ℕ × Item)) (k i j : ℕ) (low high first : Place) (rest : List Place) → All (λ chain. 0 < length chain.rest) w.chains → AreItemsIn w low high found → RunParts (chain_places (chain_at w.chains k)) i j first rest → IsOpenPair w.chains w.read.points k i j → All (ItemLets k first (run_inner rest) (run_end first rest)) found
+tests_from_open w found k i j low high first rest edges items parts is_open =
+    All-weaker (Contains found) (ItemLets k first (run_inner rest) (run_end first rest)) (λ e has other.
+    subst (λ v. IsConsistent v (run_end first rest) (run_inner rest) e.1.at) (sym parts.start)
+    (subst (λ x. IsConsistent (place_at (chain_places (chain_at w.chains k)) i) x (run_inner rest) e.1.at) (sym parts.end)
+    (subst (λ us. IsConsistent (place_at (chain_places (chain_at w.chains k)) i) (place_at (chain_places (chain_at w.chains k)) j) us e.1.at) (sym parts.inner)
+    (owned e.1.owner e.1.at (items.only e.0 e.1 has) other)))) found (All-contains_itself found)
   where
     owned : (owner : Owner) (p : Place) → Owns w.chains w.read.points owner p → IsOther k owner → IsConsistent (place_at (chain_places (chain_at w.chains k)) i) (place_at (chain_places (chain_at w.chains k)) j) (between (i + 1) j (chain_places (chain_at w.chains k))) p
     owned Town p owns other = All-contains (IsConsistent (place_at (chain_places (chain_at w.chains k)) i) (place_at (chain_places (chain_at w.chains k)) j) (between (i + 1) j (chain_places (chain_at w.chains k)))) w.read.points p is_open.towns owns

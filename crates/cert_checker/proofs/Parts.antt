@@ -1,5 +1,5 @@
 -- The parts of a run of a chain: its ends, and what is between them, by places and by vertices.
-use Rattle.std.proofs.Common.{◌≡◌, ◌∙◌, ◌+◌, ◌-◌, ◌<◌, ◌≤◌, ℕ, suc, List, [], ◌∷◌, ◌++◌, length, get_or, take, drop, map, sym, ap, arith, drop-cons}
+use Rattle.std.proofs.Common.{◌≡◌, ◌∙◌, ◌+◌, ◌-◌, ◌<◌, ◌≤◌, ℕ, List, [], ◌∷◌, ◌++◌, length, get_or, take, drop, map, sym, ap, arith}
 use Rattle.std.specs.List.{between}
 use Rattle.std.proofs.lemmas.List.{drop-map, get_or_default, get_or-drop, get_or-take, get_or-map, length-drop, length-map, length-take-le, take-map, take_all, take_more, take-take}
 use Rattle.grid_exact.specs.Geometry.{Place}
@@ -52,18 +52,6 @@ run_parts ps i j first order within read =
           ∙ ap (λ n. get_or ps n first) place
           ∙ get_or_default ps j first nowhere within;
     }
-
--- the run as one list
-pub run_whole : (ps : List Place) (i j : ℕ) (first : Place) → i < j → j < length ps → first ≡ get_or ps i first → take (j + 1 - i) (drop i ps) ≡ first ∷ take (j + 1 - (i + 1)) (drop (i + 1) ps)
-run_whole ps i j first order within read =
-    let m = j + 1 - (i + 1) in
-    let count : j + 1 - i ≡ suc (j + 1 - (i + 1)) = omega arith in
-    let next : suc i ≡ i + 1 = omega arith in
-    let here : i < length ps = omega arith in
-    ap (λ n. take n (drop i ps)) count
-    ∙ ap (take (suc (j + 1 - (i + 1)))) (drop-cons ps i first here)
-    ∙ ap (λ x. x ∷ take (j + 1 - (i + 1)) (drop (suc i) ps)) (sym read)
-    ∙ ap (λ n. first ∷ take (j + 1 - (i + 1)) (drop n ps)) next
 
 -- ---- places and vertices
 

@@ -37,10 +37,7 @@ fn allows(map: &IndexedMap, subject: &Subject<'_>, i: usize, j: usize, culprit: 
     if i + 1 == j {
         return true;
     }
-    if !is_near(subject.weighted, i, j, subject.bound, culprit) {
-        return false;
-    }
-    is_open(map, subject.chain, i, j, subject.weights, subject.bound)
+    is_near(subject.weighted, i, j, subject.bound, culprit) && is_open(map, subject.chain, i, j)
 }
 
 // The first step of the kept vertices that is not allowed.

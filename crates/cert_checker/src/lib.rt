@@ -2,6 +2,7 @@
 #![tactic(auto)]
 
 mod entry;
+mod extent;
 mod indexed;
 mod laws;
 mod near;
