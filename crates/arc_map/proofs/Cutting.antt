@@ -1,6 +1,7 @@
 -- What holds of the chains into which the arcs of a map are cut: each runs one way, each begins where the one before
 -- it in its arc ends, and they are no more than there are positions.
-use Rattle.std.proofs.Common.{◌≡◌, ◌≢◌, ◌∙◌, ℕ, suc, ◌<◌, ◌≤◌, List, [], ◌∷◌, ◌++◌, AllPairs, length, get_or, sum_by, refl, sym, ap, subst, arith, length-append}
+use Rattle.std.proofs.Common.{◌≡◌, ◌≢◌, ◌∙◌, ℕ, suc, ◌<◌, ◌≤◌, List, [], ◌∷◌, ◌++◌, AllPairs, length, get_or, sum_by, refl, sym, ap, subst}
+use Rattle.std.proofs.Common.{arith, length-append}
 use Rattle.std.specs.List.{AllByRecursion}
 use Rattle.std.proofs.lemmas.List.Elements.{All-from_recursion}
 use Rattle.std.proofs.lemmas.List.Kept.{AllPairs-cons}
@@ -63,7 +64,8 @@ pub data RunsOneWay (frame : Frame) (ps : List Place) : Type 0 where
   Falls : AllPairs (λ p q. IsBeforeIn frame q p) ps → RunsOneWay frame ps
 
 -- the edges of a walk have a relation that goes on: so do any two of its places
-pairs_of_edges : {X : Type 0} (R : X → X → Type 0) → ((a b c : X) → R a b → R b c → R a c) → (v : X) (ws : List X) → EachEdge R v ws → AllPairs R (v ∷ ws)
+pairs_of_edges : {X : Type 0} (R : X → X → Type 0) → ((a b c : X) → R a b → R b c → R a c) → (v : X) (ws : List X) → EachEdge R v ws
+    → AllPairs R (v ∷ ws)
 pairs_of_edges R goes_on v [] edges = λ i j d before below. absurd (omega arith)
 pairs_of_edges {X = X} R goes_on v (w ∷ ws) edges =
     AllPairs-cons R v (w ∷ ws) (All-from_recursion (R v) (w ∷ ws) (behind v w ws edges.0 edges.1)) (pairs_of_edges R goes_on w ws edges.1)
@@ -74,11 +76,16 @@ pairs_of_edges {X = X} R goes_on v (w ∷ ws) edges =
 
 pub edges_of_pairs : {X : Type 0} (R : X → X → Type 0) (v : X) (ws : List X) → AllPairs R (v ∷ ws) → EachEdge R v ws
 edges_of_pairs R v [] pairs = tt
-edges_of_pairs R v (w ∷ ws) pairs = (pairs 0 1 v (omega arith) (omega arith), edges_of_pairs R w ws (λ i j d before below. pairs (suc i) (suc j) d (omega arith) (omega arith)))
+edges_of_pairs R v (w ∷ ws) pairs = (
+  pairs 0 1 v (omega arith) (omega arith),
+  edges_of_pairs R w ws (λ i j d before below.
+      pairs (suc i) (suc j) d (omega arith) (omega arith)),
+)
 
 pub pairs_of_run : (frame : Frame) (v : Place) (ws : List Place) → IsMonotone frame v ws → RunsOneWay frame (v ∷ ws)
 pairs_of_run frame v ws (Increasing edges) = Rises (pairs_of_edges (λ p q. IsBeforeIn frame p q) (before_in frame) v ws edges)
-pairs_of_run frame v ws (Decreasing edges) = Falls (pairs_of_edges (λ p q. IsBeforeIn frame q p) (λ a b c first second. before_in frame c b a second first) v ws edges)
+pairs_of_run frame v ws (Decreasing edges) =
+    Falls (pairs_of_edges (λ p q. IsBeforeIn frame q p) (λ a b c first second. before_in frame c b a second first) v ws edges)
 
 pub run_of_pairs : (frame : Frame) (v : Place) (ws : List Place) → RunsOneWay frame (v ∷ ws) → IsMonotone frame v ws
 run_of_pairs frame v ws (Rises pairs) = Increasing (edges_of_pairs (λ p q. IsBeforeIn frame p q) v ws pairs)
@@ -86,7 +93,8 @@ run_of_pairs frame v ws (Falls pairs) = Decreasing (edges_of_pairs (λ p q. IsBe
 
 pub distinct_places : (frame : Frame) (ps : List Place) → RunsOneWay frame ps → AllPairs (λ p q. p ≢ q) ps
 distinct_places frame ps (Rises pairs) i j d before below = not_itself frame (get_or ps i d) (get_or ps j d) (pairs i j d before below)
-distinct_places frame ps (Falls pairs) i j d before below = λ same. not_itself frame (get_or ps j d) (get_or ps i d) (pairs i j d before below) (sym same)
+distinct_places frame ps (Falls pairs) i j d before below = λ same.
+    not_itself frame (get_or ps j d) (get_or ps i d) (pairs i j d before below) (sym same)
 
 -- ---- how many chains there are
 
@@ -137,7 +145,8 @@ second_part : {X : Type 0} (P : X → Type 0) (xs ys : List X) → AllByRecursio
 second_part P [] ys all = all
 second_part P (x ∷ xs) ys all = second_part P xs ys all.1
 
-arcs_of_walk : (arc : ℕ) (v : Vertex) (ws : List Vertex) (ks : List Chain) → IsCutInto v ws ks → v.arc ≡ arc → AllByRecursion (λ w. w.arc ≡ arc) ws → AllByRecursion (λ k. k.first.arc ≡ arc) ks
+arcs_of_walk : (arc : ℕ) (v : Vertex) (ws : List Vertex) (ks : List Chain) → IsCutInto v ws ks → v.arc ≡ arc
+    → AllByRecursion (λ w. w.arc ≡ arc) ws → AllByRecursion (λ k. k.first.arc ≡ arc) ks
 arcs_of_walk arc v ws [] cut same all = tt
 arcs_of_walk arc v ws (k ∷ ks) cut same all =
     let parts = subst (AllByRecursion (λ (w : Vertex). w.arc ≡ arc)) cut.3 all in
@@ -150,7 +159,8 @@ vertices_in_arc arc at [] = tt
 vertices_in_arc arc at (p ∷ []) = (refl, tt)
 vertices_in_arc arc at (p ∷ q ∷ ps) = (refl, vertices_in_arc arc (suc at) (q ∷ ps))
 
-pub arcs_of_list : (arc : ℕ) (vs : List Vertex) (ks : List Chain) → IsListCutInto vs ks → AllByRecursion (λ w. w.arc ≡ arc) vs → AllByRecursion (λ k. k.first.arc ≡ arc) ks
+pub arcs_of_list : (arc : ℕ) (vs : List Vertex) (ks : List Chain) → IsListCutInto vs ks → AllByRecursion (λ w. w.arc ≡ arc) vs
+    → AllByRecursion (λ k. k.first.arc ≡ arc) ks
 arcs_of_list arc [] ks cut all = rw cut tt
 arcs_of_list arc (v ∷ vs) ks cut all = arcs_of_walk arc v vs ks cut all.0 all.1
 
@@ -177,7 +187,8 @@ linked_list : (vs : List Vertex) (ks : List Chain) → IsListCutInto vs ks → A
 linked_list [] ks cut = rw cut tt
 linked_list (v ∷ vs) ks cut = linked_walk v vs ks cut
 
-linked_arcs : (arc : ℕ) (ks ls : List Chain) → AreLinked ks → AreLinked ls → AllByRecursion (λ k. k.first.arc ≡ arc) ks → AllByRecursion (λ k. suc arc ≤ k.first.arc) ls → AreLinked (ks ++ ls)
+linked_arcs : (arc : ℕ) (ks ls : List Chain) → AreLinked ks → AreLinked ls → AllByRecursion (λ k. k.first.arc ≡ arc) ks
+    → AllByRecursion (λ k. suc arc ≤ k.first.arc) ls → AreLinked (ks ++ ls)
 linked_arcs arc [] ls first later here behind = later
 linked_arcs arc (k ∷ []) [] first later here behind = tt
 linked_arcs arc (k ∷ []) (l ∷ ls) first later here behind = (λ same. let own = here.0 in let next = behind.0 in absurd (omega arith), later)
@@ -186,7 +197,8 @@ linked_arcs arc (k ∷ k' ∷ ks) ls first later here behind = (first.0, linked_
 pub linked_of_arcs : (arc : ℕ) (pss : List (List Place)) (ks : List Chain) → AreChainsOf arc pss ks → AreLinked ks
 linked_of_arcs arc [] ks cut = rw cut tt
 linked_of_arcs arc (ps ∷ pss) ks cut =
-    rw cut.2 (linked_arcs arc cut.0 cut.1 (linked_list (vertices_from arc 0 ps) cut.0 cut.3) (linked_of_arcs (suc arc) pss cut.1 cut.4) (arcs_of_list arc (vertices_from arc 0 ps) cut.0 cut.3 (vertices_in_arc arc 0 ps)) (later_arcs (suc arc) pss cut.1 cut.4))
+    rw cut.2 (linked_arcs arc cut.0 cut.1 (linked_list (vertices_from arc 0 ps) cut.0 cut.3) (linked_of_arcs (suc arc) pss cut.1 cut.4)
+    (arcs_of_list arc (vertices_from arc 0 ps) cut.0 cut.3 (vertices_in_arc arc 0 ps)) (later_arcs (suc arc) pss cut.1 cut.4))
 
 -- ---- the chains stand in order of their arcs
 
@@ -196,7 +208,8 @@ AreByArc [] = Unit {0}
 AreByArc (k ∷ []) = Unit {0}
 AreByArc (k ∷ l ∷ ks) = (k.first.arc ≤ l.first.arc) × AreByArc (l ∷ ks)
 
-by_arc : (arc : ℕ) (ks ls : List Chain) → AllByRecursion (λ k. k.first.arc ≡ arc) ks → AllByRecursion (λ k. suc arc ≤ k.first.arc) ls → AreByArc ls → AreByArc (ks ++ ls)
+by_arc : (arc : ℕ) (ks ls : List Chain) → AllByRecursion (λ k. k.first.arc ≡ arc) ks → AllByRecursion (λ k. suc arc ≤ k.first.arc) ls
+    → AreByArc ls → AreByArc (ks ++ ls)
 by_arc arc [] ls here behind later = later
 by_arc arc (k ∷ []) [] here behind later = tt
 by_arc arc (k ∷ []) (l ∷ ls) here behind later = (omega (arith, here.0, behind.0), later)
@@ -205,4 +218,5 @@ by_arc arc (k ∷ k' ∷ ks) ls here behind later = (omega (arith, here.0, here.
 pub by_arc_of_arcs : (arc : ℕ) (pss : List (List Place)) (ks : List Chain) → AreChainsOf arc pss ks → AreByArc ks
 by_arc_of_arcs arc [] ks cut = rw cut tt
 by_arc_of_arcs arc (ps ∷ pss) ks cut =
-    rw cut.2 (by_arc arc cut.0 cut.1 (arcs_of_list arc (vertices_from arc 0 ps) cut.0 cut.3 (vertices_in_arc arc 0 ps)) (later_arcs (suc arc) pss cut.1 cut.4) (by_arc_of_arcs (suc arc) pss cut.1 cut.4))
+    rw cut.2 (by_arc arc cut.0 cut.1 (arcs_of_list arc (vertices_from arc 0 ps) cut.0 cut.3 (vertices_in_arc arc 0 ps))
+    (later_arcs (suc arc) pss cut.1 cut.4) (by_arc_of_arcs (suc arc) pss cut.1 cut.4))

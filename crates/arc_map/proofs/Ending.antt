@@ -1,5 +1,7 @@
 -- The chains that end at a place, one more at a time.
-use Rattle.std.proofs.Common.{◌≡◌, ◌≢◌, ◌↔◌, ◌∙◌, ℕ, ◌+◌, ◌-◌, ◌<◌, ◌≤◌, List, [], ◌∷◌, ◌++◌, cond, map, length, get_or, set, drop, Contains, AllPairs, refl, sym, ap, subst, inl, inr, arith, length-append, length-set, get_or-set_same, get_or-set_other}
+use Rattle.std.proofs.Common.{◌≡◌, ◌≢◌, ◌↔◌, ◌∙◌, ℕ, ◌+◌, ◌-◌, ◌<◌, ◌≤◌, List, [], ◌∷◌, ◌++◌, cond, map, length, get_or, set, drop}
+use Rattle.std.proofs.Common.{Contains, AllPairs, refl, sym, ap, subst, inl, inr, arith, length-append, length-set, get_or-set_same}
+use Rattle.std.proofs.Common.{get_or-set_other}
 use Rattle.std.specs.List.Sorted.{IsStrictlyIncreasing}
 use Rattle.std.proofs.lemmas.Bool.{cases_lt}
 use Rattle.std.proofs.lemmas.List.{length-map}
@@ -21,12 +23,15 @@ pub record AreEndingBelow (chains : List Chain) (n : ℕ) (p : Place) (numbers :
   pub rising : IsStrictlyIncreasing numbers
   pub all : (k : ℕ) → Contains numbers k ↔ ((k < n) × EndsAt p (chain_at chains k))
 
-pub all_ending : (chains : List Chain) (n : ℕ) (p : Place) (numbers : List ℕ) → n ≡ length chains → AreEndingBelow chains n p numbers → AreChainsEndingAt chains p numbers
-all_ending chains n p numbers e are = let all = subst (λ m. AreEndingBelow chains m p numbers) e are in record { rising = all.rising; all = all.all }
+pub all_ending : (chains : List Chain) (n : ℕ) (p : Place) (numbers : List ℕ) → n ≡ length chains → AreEndingBelow chains n p numbers
+    → AreChainsEndingAt chains p numbers
+all_ending chains n p numbers e are = let all = subst (λ m. AreEndingBelow chains m p numbers) e are in
+    record { rising = all.rising; all = all.all }
 
 -- ---- one number more
 
-rising-push : (numbers : List ℕ) (n : ℕ) → IsStrictlyIncreasing numbers → ((k : ℕ) → k < length numbers → get_or numbers k 0 < n) → IsStrictlyIncreasing (numbers ++ n ∷ [])
+rising-push : (numbers : List ℕ) (n : ℕ) → IsStrictlyIncreasing numbers → ((k : ℕ) → k < length numbers → get_or numbers k 0 < n)
+    → IsStrictlyIncreasing (numbers ++ n ∷ [])
 rising-push numbers n rising below k within =
     let count = length-append numbers (n ∷ []) in
     elim (cases_lt (k + 1) (length numbers)) [
@@ -41,7 +46,8 @@ rising-push numbers n rising below k within =
           omega (arith, here, next, below k (omega arith))
     ]
 
-pub ends_more : (chains : List Chain) (n : ℕ) (p : Place) (numbers : List ℕ) → EndsAt p (chain_at chains n) → AreEndingBelow chains n p numbers → AreEndingBelow chains (n + 1) p (numbers ++ n ∷ [])
+pub ends_more : (chains : List Chain) (n : ℕ) (p : Place) (numbers : List ℕ) → EndsAt p (chain_at chains n)
+    → AreEndingBelow chains n p numbers → AreEndingBelow chains (n + 1) p (numbers ++ n ∷ [])
 ends_more chains n p numbers ends are = record {
   rising = rising-push numbers n are.rising (λ k inside. ((are.all (get_or numbers k 0)).0 (Contains-get_or numbers k 0 inside)).0);
   all = λ k. (
@@ -59,7 +65,8 @@ ends_more chains n p numbers ends are = record {
   );
 }
 
-pub ends_same : (chains : List Chain) (n : ℕ) (p : Place) (numbers : List ℕ) → ¬ (EndsAt p (chain_at chains n)) → AreEndingBelow chains n p numbers → AreEndingBelow chains (n + 1) p numbers
+pub ends_same : (chains : List Chain) (n : ℕ) (p : Place) (numbers : List ℕ) → ¬ (EndsAt p (chain_at chains n))
+    → AreEndingBelow chains n p numbers → AreEndingBelow chains (n + 1) p numbers
 ends_same chains n p numbers elsewhere are = record {
   rising = are.rising;
   all = λ k. (
@@ -78,9 +85,13 @@ ends_same chains n p numbers elsewhere are = record {
 
 -- the list of p after the chain number n was added at its first and at its last place
 abbrev pub added_at : Place → Place → ℕ → Place → List ℕ → List ℕ
-added_at first last n p numbers = cond (is_same p last) (cond (is_same p first) (numbers ++ n ∷ []) numbers ++ n ∷ []) (cond (is_same p first) (numbers ++ n ∷ []) numbers)
+added_at first last n p numbers = cond (is_same p last) (cond (is_same p first) (numbers ++ n ∷ []) numbers ++ n ∷ [])
+    (cond (is_same p first) (numbers ++ n ∷ []) numbers)
 
-pub ends_added : (chains : List Chain) (n : ℕ) (p : Place) (numbers : List ℕ) → (chain_at chains n).first.place ≢ (end_of (chain_at chains n).first (chain_at chains n).rest).place → AreEndingBelow chains n p numbers → AreEndingBelow chains (n + 1) p (added_at (chain_at chains n).first.place (end_of (chain_at chains n).first (chain_at chains n).rest).place n p numbers)
+pub ends_added : (chains : List Chain) (n : ℕ) (p : Place) (numbers : List ℕ)
+    → (chain_at chains n).first.place ≢ (end_of (chain_at chains n).first (chain_at chains n).rest).place
+    → AreEndingBelow chains n p numbers → AreEndingBelow chains (n + 1) p
+    (added_at (chain_at chains n).first.place (end_of (chain_at chains n).first (chain_at chains n).rest).place n p numbers)
 ends_added chains n p numbers differ are =
     let first = (chain_at chains n).first.place in
     let last = (end_of (chain_at chains n).first (chain_at chains n).rest).place in
@@ -91,7 +102,8 @@ ends_added chains n p numbers differ are =
       ]
       | No off_last e ↦ elim (compared_places p first) [
         | Yes at_first f ↦ rw (off_last, at_first) (ends_more chains n p numbers (inl (sym f)) are)
-        | No off_first f ↦ rw (off_last, off_first) (ends_same chains n p numbers (λ ends. elim ends [ inl g ↦ f (sym g) | inr g ↦ e (sym g) ]) are)
+        | No off_first f ↦ rw (off_last, off_first) (ends_same chains n p numbers (λ ends.
+            elim ends [ inl g ↦ f (sym g) | inr g ↦ e (sym g) ]) are)
       ]
     ]
 
@@ -115,15 +127,20 @@ end_kept c [] keep = let some = keep.some in absurd (omega arith)
 end_kept c (i ∷ is) keep =
     let count : length (i ∷ is) - 1 ≡ length is = omega arith in
     let last : get_or (i ∷ is) (length is) 0 ≡ length c.rest = ap (λ n. get_or (i ∷ is) n 0) (sym count) ∙ keep.last in
-    ap (λ v. end_of v (vertices_at c is)) (sym (ap (vertex_at c) keep.first)) ∙ end_of-mapped (vertex_at c) i is ∙ ap (vertex_at c) last ∙ end_vertex c.first c.rest c.first
+    ap (λ v. end_of v (vertices_at c is)) (sym (ap (vertex_at c) keep.first)) ∙ end_of-mapped (vertex_at c) i is ∙ ap (vertex_at c) last
+    ∙ end_vertex c.first c.rest c.first
 
 same_ends : (c d : Chain) (p : Place) → d.first ≡ c.first → end_of d.first d.rest ≡ end_of c.first c.rest → EndsAt p c ↔ EndsAt p d
 same_ends c d p first last = (
   λ ends. elim ends [ inl e ↦ inl (ap (λ (v : Vertex). v.place) first ∙ e) | inr e ↦ inr (ap (λ (v : Vertex). v.place) last ∙ e) ],
-  λ ends. elim ends [ inl e ↦ inl (ap (λ (v : Vertex). v.place) (sym first) ∙ e) | inr e ↦ inr (ap (λ (v : Vertex). v.place) (sym last) ∙ e) ],
+  λ ends. elim ends [
+    | inl e ↦ inl (ap (λ (v : Vertex). v.place) (sym first) ∙ e)
+    | inr e ↦ inr (ap (λ (v : Vertex). v.place) (sym last) ∙ e)
+  ],
 )
 
-ends_of_thinned : (chains : List Chain) (k : ℕ) (kept : List ℕ) (l : ℕ) (p : Place) → k < length chains → AreKeptIn (chain_at chains k) kept → EndsAt p (chain_at chains l) ↔ EndsAt p (chain_at (thinned chains k (vertices_at (chain_at chains k) (drop 1 kept))) l)
+ends_of_thinned : (chains : List Chain) (k : ℕ) (kept : List ℕ) (l : ℕ) (p : Place) → k < length chains → AreKeptIn (chain_at chains k) kept
+    → EndsAt p (chain_at chains l) ↔ EndsAt p (chain_at (thinned chains k (vertices_at (chain_at chains k) (drop 1 kept))) l)
 ends_of_thinned chains k kept l p inside keep =
     let new : Chain = record (chain_at chains k) { rest = vertices_at (chain_at chains k) (drop 1 kept) } in
     let at_k : chain_at (set chains k new) k ≡ new = get_or-set_same chains k new no_chain inside in
@@ -138,11 +155,13 @@ ends_of_thinned chains k kept l p inside keep =
         | inr not_behind ↦
             let same : k ≡ l = omega arith in
             subst (λ j. EndsAt p (chain_at chains j) ↔ EndsAt p (chain_at (set chains k new) j)) same
-            (subst (λ c. EndsAt p (chain_at chains k) ↔ EndsAt p c) (sym at_k) (same_ends (chain_at chains k) new p refl (end_kept (chain_at chains k) kept keep)))
+            (subst (λ c. EndsAt p (chain_at chains k) ↔ EndsAt p c) (sym at_k)
+            (same_ends (chain_at chains k) new p refl (end_kept (chain_at chains k) kept keep)))
       ]
     ]
 
-pub ends_stay : (chains : List Chain) (k : ℕ) (kept : List ℕ) (table : EndLists) → k < length chains → AreKeptIn (chain_at chains k) kept → IsEndTable chains table → IsEndTable (thinned chains k (vertices_at (chain_at chains k) (drop 1 kept))) table
+pub ends_stay : (chains : List Chain) (k : ℕ) (kept : List ℕ) (table : EndLists) → k < length chains → AreKeptIn (chain_at chains k) kept
+    → IsEndTable chains table → IsEndTable (thinned chains k (vertices_at (chain_at chains k) (drop 1 kept))) table
 ends_stay chains k kept table inside keep is p =
     let new : Chain = record (chain_at chains k) { rest = vertices_at (chain_at chains k) (drop 1 kept) } in
     let count = length-set chains k new in
@@ -157,13 +176,15 @@ ends_stay chains k kept table inside keep is p =
 
 -- ---- the ends among the places of a chain
 
-pub last_of_places : (c : Chain) (vs : List Place) (d : Place) → vs ≡ chain_places c → get_or vs (length vs - 1) d ≡ (end_of c.first c.rest).place
+pub last_of_places : (c : Chain) (vs : List Place) (d : Place) → vs ≡ chain_places c
+    → get_or vs (length vs - 1) d ≡ (end_of c.first c.rest).place
 last_of_places c vs d is =
     let rest = length-map c.rest (λ v. v.place) in
     let count : length vs - 1 ≡ length c.rest = ap (λ ps. length ps - 1) is ∙ omega arith in
     ap (λ n. get_or vs n d) count ∙ ap (λ ps. get_or ps (length c.rest) d) is ∙ last_place c.first c.rest d
 
-pub ends_differ : (c : Chain) (vs : List Place) → vs ≡ chain_places c → 2 ≤ length vs → AllPairs (λ p q. p ≢ q) vs → c.first.place ≢ (end_of c.first c.rest).place
+pub ends_differ : (c : Chain) (vs : List Place) → vs ≡ chain_places c → 2 ≤ length vs → AllPairs (λ p q. p ≢ q) vs
+    → c.first.place ≢ (end_of c.first c.rest).place
 ends_differ c vs is several distinct same =
     distinct 0 (length vs - 1) c.first.place (omega arith) (omega arith)
     (ap (λ ps. get_or ps 0 c.first.place) is ∙ same ∙ sym (last_of_places c vs c.first.place is))

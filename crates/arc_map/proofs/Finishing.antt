@@ -1,5 +1,7 @@
 -- The chains of a map in memory, joined into its arcs: they are arcs again, and those that the chains make up.
-use Rattle.std.proofs.Common.{◌≡◌, ◌≢◌, ◌∙◌, ℕ, zero, suc, ◌+◌, ◌-◌, ◌<◌, ◌≤◌, Bool, true, false, List, [], ◌∷◌, ◌++◌, cond, nat_eq, All, AllPairs, map, length, get_or, take, drop, set, sum_by, refl, sym, ap, subst, inl, inr, arith, append_assoc, length-append, length-drop}
+use Rattle.std.proofs.Common.{◌≡◌, ◌≢◌, ◌∙◌, ℕ, zero, suc, ◌+◌, ◌-◌, ◌<◌, ◌≤◌, Bool, true, false, List, [], ◌∷◌, ◌++◌, cond, nat_eq, All}
+use Rattle.std.proofs.Common.{AllPairs, map, length, get_or, take, drop, set, sum_by, refl, sym, ap, subst, inl, inr, arith, append_assoc}
+use Rattle.std.proofs.Common.{length-append, length-drop}
 use Rattle.std.specs.List.{AllByRecursion}
 use Rattle.std.specs.List.Sorted.{IsStrictlyIncreasing}
 use Rattle.std.proofs.lemmas.Bool.Decides.{eqb_tells}
@@ -49,7 +51,8 @@ walk_from : (m : Map) (c : LiveChain) (n : ℕ) (ns : List ℕ) → c.numbers.it
 walk_from m c n ns numbers live =
     let position : ℕ → Place = position_at m c.place.arc in
     let first : n ≡ c.place.«from» = sym (ap (λ xs. get_or xs 0 0) numbers) ∙ live.spans.first in
-    let positions : c.vertices.items ≡ position c.place.«from» ∷ map position ns = live.positions ∙ ap (map position) numbers ∙ ap (λ k. position k ∷ map position ns) first in
+    let positions : c.vertices.items ≡ position c.place.«from» ∷ map position ns = live.positions ∙ ap (map position) numbers
+    ∙ ap (λ k. position k ∷ map position ns) first in
     let count : length c.numbers.items ≡ suc (length ns) = ap length numbers in
     let back : length c.numbers.items - 1 ≡ length ns = omega arith in
     let last : get_or c.numbers.items (length ns) 0 ≡ c.place.to = ap (λ k. get_or c.numbers.items k 0) (sym back) ∙ live.spans.last in
@@ -57,7 +60,8 @@ walk_from m c n ns numbers live =
     record {
       rest = map position ns;
       positions = positions;
-      edges = edges_of_pairs (λ p q. p ≢ q) (position c.place.«from») (map position ns) (subst (AllPairs (λ p q. p ≢ q)) positions live.distinct);
+      edges = edges_of_pairs (λ p q. p ≢ q) (position c.place.«from») (map position ns)
+          (subst (AllPairs (λ p q. p ≢ q)) positions live.distinct);
       last =
           sym (end_place (position c.place.«from») (map position ns) nowhere)
           ∙ ap (λ ps. get_or ps (length (map position ns)) nowhere) (sym positions ∙ live.positions)
@@ -100,7 +104,9 @@ end_to_end (c ∷ d ∷ cs) joined = (
   joined 0 c.place (omega arith),
   end_to_end (d ∷ cs) (λ k e below.
       let next : suc k + 1 ≡ suc (k + 1) = omega arith in
-      subst (λ n. (get_or (map (λ x. x.place) (d ∷ cs)) k e).arc ≡ (get_or (map (λ x. x.place) (c ∷ d ∷ cs)) n e).arc → (get_or (map (λ x. x.place) (d ∷ cs)) k e).to ≡ (get_or (map (λ x. x.place) (c ∷ d ∷ cs)) n e).«from») next (joined (suc k) e (omega arith))),
+      subst (λ n. (get_or (map (λ x. x.place) (d ∷ cs)) k e).arc ≡ (get_or (map (λ x. x.place) (c ∷ d ∷ cs)) n e).arc
+      → (get_or (map (λ x. x.place) (d ∷ cs)) k e).to ≡ (get_or (map (λ x. x.place) (c ∷ d ∷ cs)) n e).«from») next
+      (joined (suc k) e (omega arith))),
 )
 
 end_to_end_tail : (c : LiveChain) (cs : List LiveChain) → AreEndToEnd (c ∷ cs) → AreEndToEnd cs
@@ -129,7 +135,8 @@ of_arc number c =
 run_of-other : (number : ℕ) (c : LiveChain) (cs : List LiveChain) → nat_eq c.place.arc number ≡ false → run_of number (c ∷ cs) ≡ []
 run_of-other number c cs e = ap (λ b. cond b (c ∷ run_of number cs) []) e
 
-pub each_append : (P : Place → Place → Type 0) (v : Place) (ws us : List Place) → EachEdge P v ws → EachEdge P (end_of v ws) us → EachEdge P v (ws ++ us)
+pub each_append : (P : Place → Place → Type 0) (v : Place) (ws us : List Place) → EachEdge P v ws → EachEdge P (end_of v ws) us
+    → EachEdge P v (ws ++ us)
 each_append P v [] us first later = later
 each_append P v (w ∷ ws) us first later = (first.0, each_append P w ws us first.1 later)
 
@@ -141,10 +148,13 @@ record IsJoinedRun (m : Map) (number : ℕ) (c : LiveChain) (cs : List LiveChain
   room : c.place.«from» + length (tails (run_of number (c ∷ cs))) < length (arc_at m number)
   edges : EachEdge (λ p q. p ≢ q) (position_at m c.place.arc c.place.«from») (tails (run_of number (c ∷ cs)))
 
-one_more : (m : Map) (number : ℕ) (c : LiveChain) (cs : List LiveChain) → c.place.arc ≡ number → IsWalk m c → c.place.to + length (tails (run_of number cs)) < length (arc_at m number) → EachEdge (λ p q. p ≢ q) (position_at m c.place.arc c.place.to) (tails (run_of number cs)) → IsJoinedRun m number c cs
+one_more : (m : Map) (number : ℕ) (c : LiveChain) (cs : List LiveChain) → c.place.arc ≡ number → IsWalk m c
+    → c.place.to + length (tails (run_of number cs)) < length (arc_at m number)
+    → EachEdge (λ p q. p ≢ q) (position_at m c.place.arc c.place.to) (tails (run_of number cs)) → IsJoinedRun m number c cs
 one_more m number c cs arc walk room edges =
     let us = tails (run_of number cs) in
-    let here : tails (run_of number (c ∷ cs)) ≡ walk.rest ++ us = ap tails (run_of-cons number c cs arc) ∙ ap (λ vs. drop 1 vs ++ us) walk.positions in
+    let here : tails (run_of number (c ∷ cs)) ≡ walk.rest ++ us = ap tails (run_of-cons number c cs arc)
+    ∙ ap (λ vs. drop 1 vs ++ us) walk.positions in
     let count = ap length here ∙ length-append walk.rest us in
     let short = walk.short in
     record {
@@ -152,9 +162,11 @@ one_more m number c cs arc walk room edges =
       edges = rw here (each_append (λ p q. p ≢ q) (position_at m c.place.arc c.place.«from») walk.rest us walk.edges (rw walk.last edges));
     }
 
-joined_run : (m : Map) (number : ℕ) (c : LiveChain) (cs : List LiveChain) → c.place.arc ≡ number → IsWalk m c → AllByRecursion (IsWalk m) cs → AreEndToEnd (c ∷ cs) → IsJoinedRun m number c cs
+joined_run : (m : Map) (number : ℕ) (c : LiveChain) (cs : List LiveChain) → c.place.arc ≡ number → IsWalk m c → AllByRecursion (IsWalk m) cs
+    → AreEndToEnd (c ∷ cs) → IsJoinedRun m number c cs
 joined_run m number c [] arc walk walks linked =
-    one_more m number c [] arc walk (let within = walk.within in let same = ap (λ a. length (arc_at m a)) arc in omega (arith, within, same)) tt
+    one_more m number c [] arc walk (let within = walk.within in let same = ap (λ a. length (arc_at m a)) arc in
+    omega (arith, within, same)) tt
 joined_run m number c (d ∷ ds) arc walk walks linked =
     elim (of_arc number d) [
       | Of test is ↦
@@ -191,14 +203,16 @@ as_it_was m number cs proper none =
       proper = rw none proper;
     }
 
-pub rejoined_arc : (m : Map) (number : ℕ) (cs : List LiveChain) → IsArc (arc_at m number) → AllByRecursion (IsWalk m) cs → AreEndToEnd cs → IsRejoined m number cs
+pub rejoined_arc : (m : Map) (number : ℕ) (cs : List LiveChain) → IsArc (arc_at m number) → AllByRecursion (IsWalk m) cs → AreEndToEnd cs
+    → IsRejoined m number cs
 rejoined_arc m number [] proper walks linked = as_it_was m number [] proper refl
 rejoined_arc m number (c ∷ cs) proper walks linked =
     elim (of_arc number c) [
       | Of test is ↦
           let run = joined_run m number c cs is walks.0 walks.1 linked in
           let room = run.room in
-          let here : rejoined (arc_at m number) (run_of number (c ∷ cs)) ≡ position_at m c.place.arc c.place.«from» ∷ tails (run_of number (c ∷ cs)) =
+          let here : rejoined (arc_at m number) (run_of number (c ∷ cs)) ≡ position_at m c.place.arc c.place.«from»
+          ∷ tails (run_of number (c ∷ cs)) =
           ap (rejoined (arc_at m number)) (run_of-cons number c cs is)
           ∙ ap (λ vs. take 1 vs ++ tails (c ∷ run_of number cs)) walks.0.positions
           ∙ ap (λ r. position_at m c.place.arc c.place.«from» ∷ tails r) (sym (run_of-cons number c cs is))
@@ -213,7 +227,8 @@ rejoined_arc m number (c ∷ cs) proper walks linked =
 
 -- ---- the same chains, as the map's arcs are defined
 
-pub run_is : (m : Map) (number : ℕ) (cs : List LiveChain) → chains_of_arc number (map (live_chain m) cs) ≡ map (live_chain m) (run_of number cs)
+pub run_is : (m : Map) (number : ℕ) (cs : List LiveChain) → chains_of_arc number (map (live_chain m) cs)
+    ≡ map (live_chain m) (run_of number cs)
 run_is m number [] = refl
 run_is m number (c ∷ cs) =
     let rest = run_is m number cs in
@@ -227,17 +242,24 @@ run_is m number (c ∷ cs) =
           ∙ sym (ap (map (live_chain m)) (run_of-other number c cs test))
     ]
 
-pub past_is : (m : Map) (number : ℕ) (cs : List LiveChain) → chains_past_arc number (map (live_chain m) cs) ≡ map (live_chain m) (drop (length (run_of number cs)) cs)
+pub past_is : (m : Map) (number : ℕ) (cs : List LiveChain) → chains_past_arc number (map (live_chain m) cs)
+    ≡ map (live_chain m) (drop (length (run_of number cs)) cs)
 past_is m number [] = refl
 past_is m number (c ∷ cs) =
     let rest = past_is m number cs in
     elim (of_arc number c) [
       | Of test is ↦
-          ap (λ (b : Bool). elim b [ true ↦ chains_past_arc number (map (live_chain m) cs) | false ↦ live_chain m c ∷ map (live_chain m) cs ]) test
+          ap (λ (b : Bool). elim b [
+            | true ↦ chains_past_arc number (map (live_chain m) cs)
+            | false ↦ live_chain m c ∷ map (live_chain m) cs
+          ]) test
           ∙ rest
           ∙ sym (ap (λ r. map (live_chain m) (drop (length r) (c ∷ cs))) (run_of-cons number c cs is))
       | Other test ↦
-          ap (λ (b : Bool). elim b [ true ↦ chains_past_arc number (map (live_chain m) cs) | false ↦ live_chain m c ∷ map (live_chain m) cs ]) test
+          ap (λ (b : Bool). elim b [
+            | true ↦ chains_past_arc number (map (live_chain m) cs)
+            | false ↦ live_chain m c ∷ map (live_chain m) cs
+          ]) test
           ∙ sym (ap (λ r. map (live_chain m) (drop (length r) (c ∷ cs))) (run_of-other number c cs test))
     ]
 
@@ -248,7 +270,8 @@ rests_are m (c ∷ cs) walks =
     ∙ ap (λ ps. ps ++ places (joined_rests (map (live_chain m) cs))) (walks.0.chain_rest ∙ sym (ap (drop 1) walks.0.positions))
     ∙ ap (λ ps. drop 1 c.vertices.items ++ ps) (rests_are m cs walks.1)
 
-joined_is : (m : Map) (ps : List Place) (cs : List LiveChain) → AllByRecursion (IsWalk m) cs → joined_arc ps (map (live_chain m) cs) ≡ rejoined ps cs
+joined_is : (m : Map) (ps : List Place) (cs : List LiveChain) → AllByRecursion (IsWalk m) cs
+    → joined_arc ps (map (live_chain m) cs) ≡ rejoined ps cs
 joined_is m ps [] walks = refl
 joined_is m ps (c ∷ cs) walks =
     ap (λ qs. position_at m c.place.arc c.place.«from» ∷ qs) (rests_are m (c ∷ cs) walks)
@@ -263,7 +286,9 @@ run_walks m number (c ∷ cs) walks =
     ]
 
 -- the arc number and those behind it
-pub arcs_step : (m : Map) (number : ℕ) (ps : List Place) (pss : List (List Place)) (cs : List LiveChain) → AllByRecursion (IsWalk m) cs → arcs_now number (ps ∷ pss) (map (live_chain m) cs) ≡ rejoined ps (run_of number cs) ∷ arcs_now (suc number) pss (map (live_chain m) (drop (length (run_of number cs)) cs))
+pub arcs_step : (m : Map) (number : ℕ) (ps : List Place) (pss : List (List Place)) (cs : List LiveChain) → AllByRecursion (IsWalk m) cs
+    → arcs_now number (ps ∷ pss) (map (live_chain m) cs) ≡ rejoined ps (run_of number cs)
+    ∷ arcs_now (suc number) pss (map (live_chain m) (drop (length (run_of number cs)) cs))
 arcs_step m number ps pss cs walks =
     let arc = ap (joined_arc ps) (run_is m number cs) ∙ joined_is m ps (run_of number cs) (run_walks m number cs walks) in
     let behind = ap (arcs_now (suc number) pss) (past_is m number cs) in
@@ -282,15 +307,18 @@ run_length number (c ∷ cs) =
 -- the arcs below number are as the chains make them up, the others as they were; the chains from number next on are left
 pub record IsSettled (m : Map) (cs : List LiveChain) (arcs : List (List Place)) (number next : ℕ) : Type 0 where
   pub known : next ≤ length cs
-  pub settled : take number arcs ++ arcs_now number (drop number m.arcs) (map (live_chain m) (drop next cs)) ≡ arcs_now 0 m.arcs (map (live_chain m) cs)
+  pub settled : take number arcs ++ arcs_now number (drop number m.arcs) (map (live_chain m) (drop next cs))
+      ≡ arcs_now 0 m.arcs (map (live_chain m) cs)
   pub left : drop number arcs ≡ drop number m.arcs
   pub proper : All IsArc arcs
   pub fewer : sum_by length arcs ≤ sum_by length m.arcs
 
-pub arc_left : (arcs before : List (List Place)) (number : ℕ) → drop number arcs ≡ drop number before → get_or arcs number [] ≡ get_or before number []
+pub arc_left : (arcs before : List (List Place)) (number : ℕ) → drop number arcs ≡ drop number before
+    → get_or arcs number [] ≡ get_or before number []
 arc_left arcs before number left =
     let here : number + 0 ≡ number = omega arith in
-    ap (λ n. get_or arcs n []) (sym here) ∙ sym (get_or-drop number arcs 0 []) ∙ ap (λ ps. get_or ps 0 []) left ∙ get_or-drop number before 0 [] ∙ ap (λ n. get_or before n []) here
+    ap (λ n. get_or arcs n []) (sym here) ∙ sym (get_or-drop number arcs 0 []) ∙ ap (λ ps. get_or ps 0 []) left
+    ∙ get_or-drop number before 0 [] ∙ ap (λ n. get_or before n []) here
 
 -- the arc that comes next, and what becomes of it
 pub record IsNext (m : Map) (cs : List LiveChain) (arcs : List (List Place)) (number next : ℕ) : Type 0 where
@@ -298,17 +326,22 @@ pub record IsNext (m : Map) (cs : List LiveChain) (arcs : List (List Place)) (nu
   pub arc : get_or arcs number [] ≡ arc_at m number
   pub joined : IsRejoined m number (drop next cs)
 
-pub next_arc : (m : Map) (cs : List LiveChain) (arcs : List (List Place)) (number next : ℕ) → AllByRecursion (IsWalk m) cs → AreEndToEnd cs → drop number arcs ≡ drop number m.arcs → All IsArc arcs → number < length m.arcs → IsNext m cs arcs number next
+pub next_arc : (m : Map) (cs : List LiveChain) (arcs : List (List Place)) (number next : ℕ) → AllByRecursion (IsWalk m) cs → AreEndToEnd cs
+    → drop number arcs ≡ drop number m.arcs → All IsArc arcs → number < length m.arcs → IsNext m cs arcs number next
 next_arc m cs arcs number next walks linked left proper below =
     let inside : number < length arcs = omega (arith, ap length left, length-drop number arcs, length-drop number m.arcs) in
     let arc = arc_left arcs m.arcs number left in
     record {
       inside = inside;
       arc = arc;
-      joined = rejoined_arc m number (drop next cs) (subst IsArc arc (proper number [] inside)) (all_behind (IsWalk m) next cs walks) (end_to_end_behind next cs linked);
+      joined = rejoined_arc m number (drop next cs) (subst IsArc arc (proper number [] inside)) (all_behind (IsWalk m) next cs walks)
+          (end_to_end_behind next cs linked);
     }
 
-pub settle_more : (m : Map) (cs : List LiveChain) (arcs : List (List Place)) (number next : ℕ) → AllByRecursion (IsWalk m) cs → AreEndToEnd cs → number < length m.arcs → IsSettled m cs arcs number next → IsSettled m cs (set arcs number (rejoined (get_or arcs number []) (run_of number (drop next cs)))) (number + 1) (next + length (run_of number (drop next cs)))
+pub settle_more : (m : Map) (cs : List LiveChain) (arcs : List (List Place)) (number next : ℕ) → AllByRecursion (IsWalk m) cs
+    → AreEndToEnd cs → number < length m.arcs → IsSettled m cs arcs number next
+    → IsSettled m cs (set arcs number (rejoined (get_or arcs number []) (run_of number (drop next cs)))) (number + 1)
+    (next + length (run_of number (drop next cs)))
 settle_more m cs arcs number next walks linked below old =
     let coming = next_arc m cs arcs number next walks linked old.left old.proper below in
     let behind = drop next cs in
@@ -319,13 +352,15 @@ settle_more m cs arcs number next walks linked below old =
     let step : arcs_now number (drop number m.arcs) (map (live_chain m) behind) ≡ new ∷ X =
     ap (λ pss. arcs_now number pss (map (live_chain m) behind)) (drop_more m.arcs number [] below)
     ∙ arcs_step m number (get_or m.arcs number []) (drop (number + 1) m.arcs) behind (all_behind (IsWalk m) next cs walks)
-    ∙ ap (λ ps. rejoined ps run ∷ arcs_now (suc number) (drop (number + 1) m.arcs) (map (live_chain m) (drop (length run) behind))) (sym coming.arc)
+    ∙ ap (λ ps. rejoined ps run ∷ arcs_now (suc number) (drop (number + 1) m.arcs) (map (live_chain m) (drop (length run) behind)))
+    (sym coming.arc)
     ∙ ap (λ ds. new ∷ arcs_now (suc number) (drop (number + 1) m.arcs) (map (live_chain m) ds)) (drop-drop (length run) next cs)
     ∙ ap (λ n. new ∷ arcs_now n (drop (number + 1) m.arcs) (map (live_chain m) (drop (next + length run) cs))) one
     in
     let size = length-drop next cs in
     let sum = sum_by-set length arcs number new [] coming.inside in
-    let shorter : length new ≤ length (get_or arcs number []) = subst (λ ps. length (rejoined ps run) ≤ length ps) (sym coming.arc) coming.joined.shorter in
+    let shorter : length new ≤ length (get_or arcs number []) =
+    subst (λ ps. length (rejoined ps run) ≤ length ps) (sym coming.arc) coming.joined.shorter in
     let fewer = old.fewer in
     let known = old.known in
     record {

@@ -1,5 +1,6 @@
 -- Lists that stand beside places in a table: what is found there, and what changes where a place or a number is added.
-use Rattle.std.proofs.Common.{◌≡◌, ◌⊎◌, ◌∙◌, ℕ, zero, suc, ◌<◌, Bool, true, false, ◌&&◌, ◌||◌, cond, List, [], ◌∷◌, ◌++◌, length, get_or, set, refl, sym, ap, subst, inl, inr, arith, Some, position}
+use Rattle.std.proofs.Common.{◌≡◌, ◌⊎◌, ◌∙◌, ℕ, zero, suc, ◌<◌, Bool, true, false, ◌&&◌, ◌||◌, cond, List, [], ◌∷◌, ◌++◌, length, get_or}
+use Rattle.std.proofs.Common.{set, refl, sym, ap, subst, inl, inr, arith, Some, position}
 use Rattle.std.specs.Ordering.{int_eq}
 use Rattle.std.specs.List.{list_any}
 use Rattle.std.proofs.lemmas.Bool.{false≢true}
@@ -45,13 +46,15 @@ compared_places p q =
 
 -- ---- what is found
 
-pub listed-absent : (places : List Place) (lists : List (List ℕ)) (p : Place) → list_any (is_same p) places ≡ false → listed places lists p ≡ []
+pub listed-absent : (places : List Place) (lists : List (List ℕ)) (p : Place) → list_any (is_same p) places ≡ false
+    → listed places lists p ≡ []
 listed-absent [] lists p none = refl
 listed-absent (q ∷ places) [] p none = refl
 listed-absent (q ∷ places) (numbers ∷ lists) p none =
     elim (compared_places p q) [
       | Yes alike e ↦ absurd (false≢true (sym none ∙ ap (λ b. b || list_any (is_same p) places) alike))
-      | No unlike e ↦ ap (λ b. cond b numbers (listed places lists p)) unlike ∙ listed-absent places lists p (sym (ap (λ b. b || list_any (is_same p) places) unlike) ∙ none)
+      | No unlike e ↦ ap (λ b. cond b numbers (listed places lists p)) unlike
+          ∙ listed-absent places lists p (sym (ap (λ b. b || list_any (is_same p) places) unlike) ∙ none)
     ]
 
 -- the place stands at this index, and at none before it
@@ -67,7 +70,8 @@ rest_stands q places place at stands = record {
   first = λ k d below. stands.first (suc k) d (omega arith);
 }
 
-pub listed-at : (places : List Place) (lists : List (List ℕ)) (place : Place) (at : ℕ) → length lists ≡ length places → StandsAt places place at → listed places lists place ≡ get_or lists at []
+pub listed-at : (places : List Place) (lists : List (List ℕ)) (place : Place) (at : ℕ) → length lists ≡ length places
+    → StandsAt places place at → listed places lists place ≡ get_or lists at []
 listed-at [] lists place at same stands = let inside = stands.inside in absurd (omega arith)
 listed-at (q ∷ places) [] place at same stands = absurd (omega arith)
 listed-at (q ∷ places) (numbers ∷ lists) place zero same stands =
@@ -79,7 +83,8 @@ listed-at (q ∷ places) (numbers ∷ lists) place (suc at) same stands =
 -- ---- what changes
 
 -- a new place has no numbers
-pub listed-new_place : (places : List Place) (lists : List (List ℕ)) (place : Place) → length lists ≡ length places → (p : Place) → listed (places ++ place ∷ []) (lists ++ [] ∷ []) p ≡ listed places lists p
+pub listed-new_place : (places : List Place) (lists : List (List ℕ)) (place : Place) → length lists ≡ length places → (p : Place)
+    → listed (places ++ place ∷ []) (lists ++ [] ∷ []) p ≡ listed places lists p
 listed-new_place [] [] place same p =
     elim (compared_places p place) [
       | Yes alike e ↦ ap (λ b. cond b [] []) alike
@@ -91,16 +96,21 @@ listed-new_place (q ∷ places) (numbers ∷ lists) place same p =
     ap (cond (is_same p q) numbers) (listed-new_place places lists place (omega arith) p)
 
 -- the list of one place is replaced
-pub listed-set : (places : List Place) (lists : List (List ℕ)) (place : Place) (at : ℕ) (new : List ℕ) → length lists ≡ length places → StandsAt places place at → (p : Place) → listed places (set lists at new) p ≡ cond (is_same p place) new (listed places lists p)
+pub listed-set : (places : List Place) (lists : List (List ℕ)) (place : Place) (at : ℕ) (new : List ℕ) → length lists ≡ length places
+    → StandsAt places place at → (p : Place) → listed places (set lists at new) p ≡ cond (is_same p place) new (listed places lists p)
 listed-set [] lists place at new same stands p = let inside = stands.inside in absurd (omega arith)
 listed-set (q ∷ places) [] place at new same stands p = absurd (omega arith)
 listed-set (q ∷ places) (numbers ∷ lists) place zero new same stands p =
     elim (compared_places place q) [
       | Yes alike e ↦ elim (compared_places p q) [
         | Yes p_alike p_is ↦
-            ap (λ b. cond b new (listed places lists p)) p_alike ∙ sym (ap (λ b. cond b new (cond (is_same p q) numbers (listed places lists p))) (subst (λ r. is_same p r ≡ true) (sym e) p_alike))
+            ap (λ b. cond b new (listed places lists p)) p_alike
+            ∙ sym (ap (λ b. cond b new (cond (is_same p q) numbers (listed places lists p)))
+            (subst (λ r. is_same p r ≡ true) (sym e) p_alike))
         | No p_unlike p_is ↦
-            ap (λ b. cond b new (listed places lists p)) p_unlike ∙ sym (ap (λ b. cond b new (cond (is_same p q) numbers (listed places lists p))) (subst (λ r. is_same p r ≡ false) (sym e) p_unlike) ∙ ap (λ b. cond b numbers (listed places lists p)) p_unlike)
+            ap (λ b. cond b new (listed places lists p)) p_unlike
+            ∙ sym (ap (λ b. cond b new (cond (is_same p q) numbers (listed places lists p)))
+            (subst (λ r. is_same p r ≡ false) (sym e) p_unlike) ∙ ap (λ b. cond b numbers (listed places lists p)) p_unlike)
       ]
       | No unlike e ↦ absurd (false≢true (sym unlike ∙ stands.there q))
     ]
@@ -111,21 +121,28 @@ listed-set (q ∷ places) (numbers ∷ lists) place (suc at) new same stands p =
       | Yes alike p_is ↦
           elim (compared_places p place) [
             | Yes p_alike e ↦ absurd (false≢true (sym other ∙ subst (λ r. is_same r q ≡ true) e alike))
-            | No p_unlike e ↦ ap (λ b. cond b numbers (listed places (set lists at new) p)) alike ∙ sym (ap (λ b. cond b new (cond (is_same p q) numbers (listed places lists p))) p_unlike ∙ ap (λ b. cond b numbers (listed places lists p)) alike)
+            | No p_unlike e ↦ ap (λ b. cond b numbers (listed places (set lists at new) p)) alike
+                ∙ sym (ap (λ b. cond b new (cond (is_same p q) numbers (listed places lists p))) p_unlike
+                ∙ ap (λ b. cond b numbers (listed places lists p)) alike)
           ]
       | No unlike p_is ↦
-          ap (λ b. cond b numbers (listed places (set lists at new) p)) unlike ∙ rest ∙ sym (ap (λ b. cond (is_same p place) new (cond b numbers (listed places lists p))) unlike)
+          ap (λ b. cond b numbers (listed places (set lists at new) p)) unlike ∙ rest
+          ∙ sym (ap (λ b. cond (is_same p place) new (cond b numbers (listed places lists p))) unlike)
     ]
 
 -- a number is put at the end of the list of one place
-pub listed-added : (places : List Place) (lists : List (List ℕ)) (place : Place) (at : ℕ) (old : List ℕ) (number : ℕ) → length lists ≡ length places → StandsAt places place at → get_or lists at [] ≡ old → (p : Place) → listed places (set lists at (old ++ number ∷ [])) p ≡ cond (is_same p place) (listed places lists p ++ number ∷ []) (listed places lists p)
+pub listed-added : (places : List Place) (lists : List (List ℕ)) (place : Place) (at : ℕ) (old : List ℕ) (number : ℕ)
+    → length lists ≡ length places → StandsAt places place at → get_or lists at [] ≡ old → (p : Place)
+    → listed places (set lists at (old ++ number ∷ [])) p ≡ cond (is_same p place) (listed places lists p ++ number ∷ [])
+    (listed places lists p)
 listed-added places lists place at old number same stands is p =
     elim (compared_places p place) [
       | Yes alike e ↦
           let here = listed-at places lists place at same stands ∙ is in
           listed-set places lists place at (old ++ number ∷ []) same stands p
           ∙ ap (λ b. cond b (old ++ number ∷ []) (listed places lists p)) alike
-          ∙ sym (ap (λ b. cond b (listed places lists p ++ number ∷ []) (listed places lists p)) alike ∙ ap (λ ns. ns ++ number ∷ []) (ap (listed places lists) e ∙ here))
+          ∙ sym (ap (λ b. cond b (listed places lists p ++ number ∷ []) (listed places lists p)) alike
+          ∙ ap (λ ns. ns ++ number ∷ []) (ap (listed places lists) e ∙ here))
       | No unlike e ↦
           listed-set places lists place at (old ++ number ∷ []) same stands p
           ∙ ap (λ b. cond b (old ++ number ∷ []) (listed places lists p)) unlike

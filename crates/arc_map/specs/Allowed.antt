@@ -15,7 +15,8 @@ pub data IsConsistent (v w : Place) (skipped : List Place) (p : Place) : Type 0 
   SameSide : ¬ (IsOnSegment v w p) → is_odd (count_edges (is_crossed p) v (skipped ++ w ∷ v ∷ [])) ≡ false → IsConsistent v w skipped p
 
 -- the edge vw may take the place of the run from v over the skipped vertices to w
-pub record IsShortcut (IsNear : Place → Place → Place → Type 0) (IsEdge : Vertex → Vertex → Type 0) (IsPoint : Place → Type 0) (v : Vertex) (skipped : List Vertex) (w : Vertex) : Type 0 where
+pub record IsShortcut (IsNear : Place → Place → Place → Type 0) (IsEdge : Vertex → Vertex → Type 0) (IsPoint : Place
+    → Type 0) (v : Vertex) (skipped : List Vertex) (w : Vertex) : Type 0 where
   -- the nearness part
   pub near : All (λ k. IsNear v.place w.place k.place) skipped
   -- the consistency part, for feature points and for the vertices of other chains
@@ -26,7 +27,8 @@ pub record IsShortcut (IsNear : Place → Place → Place → Type 0) (IsEdge : 
   pub single : (c d : Vertex) → IsEdge c d → ¬ (SameEnds v.place w.place c.place d.place)
 
 -- the pair of v and w is allowed
-pub data IsAllowed (IsNear : Place → Place → Place → Type 0) (IsEdge : Vertex → Vertex → Type 0) (IsPoint : Place → Type 0) (v : Vertex) (skipped : List Vertex) (w : Vertex) : Type 0 where
+pub data IsAllowed (IsNear : Place → Place → Place → Type 0) (IsEdge : Vertex → Vertex → Type 0) (IsPoint : Place
+    → Type 0) (v : Vertex) (skipped : List Vertex) (w : Vertex) : Type 0 where
   Neighbours : skipped ≡ [] → IsAllowed IsNear IsEdge IsPoint v skipped w
   Shortcut : IsShortcut IsNear IsEdge IsPoint v skipped w → IsAllowed IsNear IsEdge IsPoint v skipped w
 
@@ -34,4 +36,5 @@ pub data IsAllowed (IsNear : Place → Place → Place → Type 0) (IsEdge : Ver
 -- pairs allowed
 abbrev pub IsPath : (Vertex → List Vertex → Vertex → Type 0) → Vertex → List Vertex → List Vertex → Type 0
 IsPath Allowed v ws [] = ws ≡ []
-IsPath Allowed v ws (w ∷ kept) = (skipped : List Vertex) × (rest : List Vertex) × (ws ≡ skipped ++ w ∷ rest) × Allowed v skipped w × IsPath Allowed w rest kept
+IsPath Allowed v ws (w ∷ kept) = (skipped : List Vertex) × (rest : List Vertex) × (ws ≡ skipped ++ w ∷ rest) × Allowed v skipped w
+    × IsPath Allowed w rest kept

@@ -49,17 +49,21 @@ pub record IsFurthest (frame : Frame) (v : Vertex) (ws run : List Vertex) : Type
   pub starts : ws ≡ run ++ rest
   pub within : length run ≤ most_edges
   pub one_way : IsMonotone frame v.place (places run)
-  pub furthest : (longer more : List Vertex) → ws ≡ longer ++ more → length longer ≤ most_edges → IsMonotone frame v.place (places longer) → length longer ≤ length run
+  pub furthest : (longer more : List Vertex) → ws ≡ longer ++ more → length longer ≤ most_edges → IsMonotone frame v.place (places longer)
+      → length longer ≤ length run
 
 -- the chain that is cut off the walk from v along ws: the furthest run of the two frames, of the plain one at a tie
 pub data IsNextChain (v : Vertex) (ws : List Vertex) (k : Chain) : Type 0 where
-  PlainReaches : (other : List Vertex) → k.frame ≡ Plain → IsFurthest Plain v ws k.rest → IsFurthest Turned v ws other → length other ≤ length k.rest → IsNextChain v ws k
-  TurnedReaches : (other : List Vertex) → k.frame ≡ Turned → IsFurthest Plain v ws other → IsFurthest Turned v ws k.rest → length other < length k.rest → IsNextChain v ws k
+  PlainReaches : (other : List Vertex) → k.frame ≡ Plain → IsFurthest Plain v ws k.rest → IsFurthest Turned v ws other
+      → length other ≤ length k.rest → IsNextChain v ws k
+  TurnedReaches : (other : List Vertex) → k.frame ≡ Turned → IsFurthest Plain v ws other → IsFurthest Turned v ws k.rest
+      → length other < length k.rest → IsNextChain v ws k
 
 -- the walk from v along ws is cut into these chains; each chain has an edge
 abbrev pub IsCutInto : Vertex → List Vertex → List Chain → Type 0
 IsCutInto v ws [] = ws ≡ []
-IsCutInto v ws (k ∷ ks) = (k.first ≡ v) × IsNextChain v ws k × (rest : List Vertex) × (ws ≡ k.rest ++ rest) × IsCutInto (end_of v k.rest) rest ks × (0 < length k.rest)
+IsCutInto v ws (k ∷ ks) = (k.first ≡ v) × IsNextChain v ws k × (rest : List Vertex) × (ws ≡ k.rest ++ rest)
+    × IsCutInto (end_of v k.rest) rest ks × (0 < length k.rest)
 
 -- the arc with these vertices is cut into these chains
 abbrev pub IsListCutInto : List Vertex → List Chain → Type 0
@@ -69,7 +73,8 @@ IsListCutInto (v ∷ vs) ks = IsCutInto v vs ks
 -- the chains of the arcs, the first of which has this number
 abbrev pub AreChainsOf : ℕ → List (List Place) → List Chain → Type 0
 AreChainsOf arc [] ks = ks ≡ []
-AreChainsOf arc (ps ∷ pss) ks = (here : List Chain) × (later : List Chain) × (ks ≡ here ++ later) × IsListCutInto (vertices_from arc 0 ps) here × AreChainsOf (suc arc) pss later
+AreChainsOf arc (ps ∷ pss) ks = (here : List Chain) × (later : List Chain) × (ks ≡ here ++ later)
+    × IsListCutInto (vertices_from arc 0 ps) here × AreChainsOf (suc arc) pss later
 
 -- ---- the arcs of thinned chains
 

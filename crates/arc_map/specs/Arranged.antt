@@ -63,7 +63,8 @@ PointIsOn m k e = IsOnSegment (edge_start m e) (edge_end m e) (get_or m.points k
 -- the map is arranged beside the held arcs: each clashing pair of edges is a pair of edges of held arcs,
 -- and each feature point that is on an edge is on edges of held arcs alone
 pub record IsMapArranged (held : List ℕ) (m : Map) : Type 0 where
-  pub clashes : (e f : EdgeRef) → IsMapEdge m e → IsMapEdge m f → IsEarlier e f → EdgesClash m e f → Contains held e.arc × Contains held f.arc
+  pub clashes : (e f : EdgeRef) → IsMapEdge m e → IsMapEdge m f → IsEarlier e f → EdgesClash m e f
+      → Contains held e.arc × Contains held f.arc
   pub points : (k : ℕ) (e : EdgeRef) → k < length m.points → IsMapEdge m e → PointIsOn m k e → Contains held e.arc
 
 -- the map is arranged: it is arranged beside no arcs, so no two edges clash and no feature point is on an edge

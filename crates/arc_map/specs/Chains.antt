@@ -59,7 +59,8 @@ EndsAt p k = (k.first.place ≡ p) ⊎ ((end_of k.first k.rest).place ≡ p)
 
 -- kept, after the first vertex, is a path of the chain number k in the map: its consecutive pairs are allowed
 abbrev pub IsPathIn : (Place → Place → Place → Type 0) → List Chain → List Place → ℕ → List Vertex → Type 0
-IsPathIn Near chains points k kept = IsPath (IsAllowed Near (IsOtherEdge chains k) (Contains points)) (chain_at chains k).first (chain_at chains k).rest kept
+IsPathIn Near chains points k kept = IsPath (IsAllowed Near (IsOtherEdge chains k) (Contains points)) (chain_at chains k).first
+    (chain_at chains k).rest kept
 
 -- the map in which just these vertices are left of the chain number k, after its first
 abbrev pub thinned : List Chain → ℕ → List Vertex → List Chain

@@ -40,4 +40,7 @@ pub record EdgesAreArranged (held : List ℕ) (edges : List Edge) (points : List
 -- whether the arc is crossed from p an odd number of times
 abbrev pub is_arc_crossed_oddly : Place → ℕ → List Chain → Bool
 is_arc_crossed_oddly p arc [] = false
-is_arc_crossed_oddly p arc (k ∷ ks) = elim (nat_eq k.first.arc arc) [ true ↦ differ (is_crossed_oddly p k) (is_arc_crossed_oddly p arc ks) | false ↦ is_arc_crossed_oddly p arc ks ]
+is_arc_crossed_oddly p arc (k ∷ ks) = elim (nat_eq k.first.arc arc) [
+  | true ↦ differ (is_crossed_oddly p k) (is_arc_crossed_oddly p arc ks)
+  | false ↦ is_arc_crossed_oddly p arc ks
+]

@@ -16,7 +16,8 @@ vertex_at k i = get_or (vertices_of k) i k.first
 
 -- the pair (i, j) of the chain number k is allowed: see `IsAllowed`
 abbrev pub IsAllowedPair : (Place → Place → Place → Type 0) → List Chain → List Place → ℕ → ℕ → ℕ → Type 0
-IsAllowedPair Near chains points k i j = IsAllowed Near (IsOtherEdge chains k) (Contains points) (vertex_at (chain_at chains k) i) (between (i + 1) j (vertices_of (chain_at chains k))) (vertex_at (chain_at chains k) j)
+IsAllowedPair Near chains points k i j = IsAllowed Near (IsOtherEdge chains k) (Contains points) (vertex_at (chain_at chains k) i)
+    (between (i + 1) j (vertices_of (chain_at chains k))) (vertex_at (chain_at chains k) j)
 
 -- the vertices with these numbers
 abbrev pub vertices_at : Chain → List ℕ → List Vertex

@@ -16,7 +16,12 @@ vertex_in m arc at = record { arc = arc; at = at; is_end = is_arc_end m arc at; 
 
 -- the chain as the map has it
 abbrev pub chain_in : Map → ChainRef → Chain
-chain_in m r = record { frame = r.frame; first = vertex_in m r.arc r.«from»; rest = map (vertex_in m r.arc) (range_with_len (r.«from» + 1) (r.to - r.«from»)) }
+chain_in m r = record {
+  frame = r.frame;
+  first = vertex_in m r.arc r.«from»;
+  rest =
+      map (vertex_in m r.arc) (range_with_len (r.«from» + 1) (r.to - r.«from»));
+}
 
 -- the chain has an edge, and lies in its arc
 pub record LiesInArc (m : Map) (r : ChainRef) : Type 0 where

@@ -1,5 +1,6 @@
 //! Lists of arcs in rising order, as the arcs that a run holds still.
-ghost use Rattle.std.specs.Prelude.{◌≡◌, ◌<◌, ◌≤◌, ◌^◌, ◌↔◌, IsTrue, Contains, length, slice_index, slice_get};
+ghost use Rattle.std.specs.Prelude.{◌≡◌, ◌<◌, ◌≤◌, ◌^◌, ◌↔◌, IsTrue, Contains, length, slice_index};
+ghost use Rattle.std.specs.Prelude.{slice_get};
 
 use std::marker::Model;
 

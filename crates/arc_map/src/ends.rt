@@ -1,5 +1,6 @@
 //! The chains that end at a place.
-ghost use Rattle.std.specs.Prelude.{◌≡◌, ◌<◌, ◌∷◌, ◌++◌, [], if◌then◌else◌, OnOk, IfOk, length, position};
+ghost use Rattle.std.specs.Prelude.{◌≡◌, ◌<◌, ◌∷◌, ◌++◌, [], if◌then◌else◌, OnOk, IfOk, length};
+ghost use Rattle.std.specs.Prelude.{position};
 ghost use Rattle.grid_exact.specs.Geometry.{Place};
 ghost use Rattle.arc_map.specs.Ends.{EndLists, IsEndTable, is_same, listed};
 
@@ -24,7 +25,11 @@ impl Model for EndTable {
 
     ghost Value = { EndLists };
 
-    ghost view = { λ t. record { places = t.places.keys; lists = map (λ list. list.items) t.lists.items } };
+    ghost view = { λ t. record {
+      places = t.places.keys;
+      lists =
+          map (λ list. list.items) t.lists.items;
+    } };
 
     ghost invariant = { λ t. length t.lists.items ≡ length t.places.keys };
 }
@@ -59,7 +64,8 @@ impl EndTable {
     // Puts the chain at the end of the list of the place.
     fn add(&mut self, alloc: Global, place: Point, chain: u32) -> Result<(), AllocError>
         ensures { OnOk result ((p : Place) → listed self.new.places self.new.lists p
-            ≡ (if is_same p place then listed self.old.places self.old.lists p ++ chain ∷ [] else listed self.old.places self.old.lists p)) }
+            ≡ (if is_same p place then listed self.old.places self.old.lists p ++ chain
+            ∷ [] else listed self.old.places self.old.lists p)) }
     {
         let at = self.index_of(alloc, place)?;
         self.lists[at].push(chain)?;
@@ -71,7 +77,8 @@ impl EndTable {
         ensures index { IfOk result (λ at. position (is_same place) self.new.places ≡ Some at) }
         ensures within { IfOk result (λ at. at < length self.new.lists) }
         ensures same_length { length self.new.lists ≡ length self.new.places }
-        ensures lists { OnOk result ((p : Place) → listed self.new.places self.new.lists p ≡ listed self.old.places self.old.lists p) }
+        ensures lists { OnOk result ((p : Place)
+            → listed self.new.places self.new.lists p ≡ listed self.old.places self.old.lists p) }
     {
         self.lists.reserve(1)?;
         let (at, is_new) = self.places.insert_full(place)?;

@@ -30,8 +30,8 @@ struct Entry {
     layers_end: usize,
 }
 
-/// The records of a run, in the order of its chains. Contracts see the list of records, and how many
-/// more records, kept places and layers there is room for.
+/// The records of a run, in the order of its chains. Contracts see the list of records, and how
+/// many more records, kept places and layers there is room for.
 #[derive(Drop)]
 pub struct RunRecords {
     entries: Vec<Entry>,
@@ -55,8 +55,8 @@ impl Model for RunRecords {
 }
 
 impl RunRecords {
-    /// No records yet, with room for so many records, kept places in sum and layers in sum. There may be
-    /// at most `2^20` records. The only error is want of memory.
+    /// No records yet, with room for so many records, kept places in sum and layers in sum. There
+    /// may be at most `2^20` records. The only error is want of memory.
     pub fn with_room(
         alloc: Global,
         chains: usize,
@@ -83,8 +83,20 @@ impl RunRecords {
 
     /// Adds the record of a chain at the end. There must be room for it: none is taken here.
     pub fn push(&mut self, arc: u32, from: u32, kept: &[u32], layers: &[u32])
-        requires { Fits self.old (record { arc = arc; «from» = from; kept = kept.now; layers = layers.now }) }
-        ensures { self.new ≡ pushed self.old (record { arc = arc; «from» = from; kept = kept.now; layers = layers.now }) }
+        requires { Fits self.old (record {
+          arc = arc;
+          «from» = from;
+          kept = kept.now;
+          layers =
+              layers.now;
+        }) }
+        ensures { self.new ≡ pushed self.old (record {
+          arc = arc;
+          «from» = from;
+          kept =
+              kept.now;
+          layers = layers.now;
+        }) }
     {
         let kept_start = self.kept.len();
         let layers_start = self.layers.len();

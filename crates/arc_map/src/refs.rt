@@ -12,8 +12,8 @@ impl From<AllocError> for NoMemory {
     }
 }
 
-/// An edge of a map: it joins the positions `at` and `at + 1` of arc number `arc`. Edges are ordered by
-/// arc, then by `at`.
+/// An edge of a map: it joins the positions `at` and `at + 1` of arc number `arc`. Edges are
+/// ordered by arc, then by `at`.
 #[derive(Clone, Copy, Debug, PartialEq, Eq, PartialOrd, Ord)]
 pub struct EdgeRef {
     /// the number of the arc

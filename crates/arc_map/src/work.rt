@@ -1,5 +1,6 @@
 //! A map at work: its chains as they are now, each of which can be thinned in place.
-ghost use Rattle.std.specs.Prelude.{◌≡◌, ◌≢◌, ◌+◌, ◌-◌, ◌<◌, ◌≤◌, ◌^◌, ◌++◌, All, AllPairs, IfOk, drop, length, map, slice_get, slice_index_or, take};
+ghost use Rattle.std.specs.Prelude.{◌≡◌, ◌≢◌, ◌+◌, ◌-◌, ◌<◌, ◌≤◌, ◌^◌, ◌++◌, All, AllPairs, IfOk};
+ghost use Rattle.std.specs.Prelude.{drop, length, map, slice_get, slice_index_or, take};
 ghost use Rattle.std.specs.List.Sorted.{IsStrictlyIncreasing};
 ghost use Rattle.arc_map.specs.Arcs.{map_now};
 ghost use Rattle.arc_map.specs.Chains.{chain_at, chain_places, AreChains};
@@ -7,7 +8,8 @@ ghost use Rattle.std.specs.List.{range_with_len};
 ghost use Rattle.arc_map.specs.Ends.{EndLists, IsEndTable};
 ghost use Rattle.arc_map.specs.Live.{IsRead};
 ghost use Rattle.arc_map.specs.Rejoin.{run_of, tails, rejoined};
-ghost use Rattle.arc_map.specs.Work.{Work, work_of, LiesInArc, AreChainsIn, AreKeptIn, thinned_work};
+ghost use Rattle.arc_map.specs.Work.{Work, work_of, LiesInArc, AreChainsIn, AreKeptIn};
+ghost use Rattle.arc_map.specs.Work.{thinned_work};
 
 use crate::map::ArcMap;
 use crate::refs::{ChainRef, NoMemory};
@@ -15,8 +17,8 @@ use grid_exact::Point;
 use std::alloc::{AllocError, Global};
 use std::marker::Model;
 
-// A chain as it is now: its place in the map read, the numbers of its vertices in the arc as read, and
-// their positions.
+// A chain as it is now: its place in the map read, the numbers of its vertices in the arc as read,
+// and their positions.
 #[derive(Drop)]
 struct LiveChain {
     place: ChainRef,
@@ -24,8 +26,9 @@ struct LiveChain {
     vertices: Vec<Point>,
 }
 
-/// A map whose chains can be thinned. Contracts see the map read, the places of its chains there, and
-/// the chains as they are now: lists of vertices that know their arc and their number in it as read.
+/// A map whose chains can be thinned. Contracts see the map read, the places of its chains there,
+/// and the chains as they are now: lists of vertices that know their arc and their number in it as
+/// read.
 #[derive(Drop)]
 pub struct WorkMap {
     base: ArcMap,
@@ -60,8 +63,8 @@ impl WorkMap {
         })
     }
 
-    /// How many chains there are. Whatever was thinned, they are chains of a map: each runs strictly
-    /// one way within one arc, and they have no vertex in common but their ends.
+    /// How many chains there are. Whatever was thinned, they are chains of a map: each runs
+    /// strictly one way within one arc, and they have no vertex in common but their ends.
     pub fn chain_count(&self) -> u32
         ensures value { result ≡ length self.now.chains }
         ensures refs { result ≡ length self.now.refs }
@@ -71,8 +74,8 @@ impl WorkMap {
         self.chains.len() as u32
     }
 
-    /// The positions of the vertices of chain number `k` as it is now, in grid units, from its first to
-    /// its last.
+    /// The positions of the vertices of chain number `k` as it is now, in grid units, from its
+    /// first to its last.
     pub fn chain(&self, k: u32) -> &[Point]
         requires { k < length self.now.chains }
         ensures places { result.now ≡ chain_places (chain_at self.now.chains k) }
@@ -84,8 +87,8 @@ impl WorkMap {
         self.chains[k as usize].vertices.as_slice()
     }
 
-    /// The place of chain number `k` in the map read: its arc, and the numbers of its first and last
-    /// vertex there. Thinning leaves it as it is.
+    /// The place of chain number `k` in the map read: its arc, and the numbers of its first and
+    /// last vertex there. Thinning leaves it as it is.
     pub fn chain_ref(&self, k: u32) -> ChainRef
         requires { k < length self.now.chains }
         ensures { slice_get self.now.refs k ≡ Some result }
@@ -109,22 +112,24 @@ impl WorkMap {
         self.base.point(k)
     }
 
-    /// Leaves just the vertices of chain number `k` at the places `kept` in the chain as it is now, from
+    /// Leaves just the vertices of chain number `k` at the places `kept` in the chain as it is now,
+    /// from
     /// 0. They keep their numbers in the arc as read. All else stays.
     pub fn thin(&mut self, k: u32, kept: &[u32])
         requires chain { k < length self.old.chains }
         requires kept { AreKeptIn (chain_at self.old.chains k) kept.now }
         ensures thinned { self.new ≡ thinned_work self.old k kept.now }
         // A table of chain ends stays right.
-        ensures ends { (table : EndLists) → IsEndTable self.old.chains table → IsEndTable self.new.chains table }
+        ensures ends { (table : EndLists) → IsEndTable self.old.chains table
+            → IsEndTable self.new.chains table }
     {
         let chain = &mut self.chains[k as usize];
         keep(&mut chain.numbers, kept);
         keep(&mut chain.vertices, kept);
     }
 
-    /// The map as it is now: its arcs are those that the chains make up, and the rest is as in the map
-    /// read.
+    /// The map as it is now: its arcs are those that the chains make up, and the rest is as in the
+    /// map read.
     pub fn finish(self) -> ArcMap
         ensures { result ≡ map_now self.read self.chains }
     {
@@ -138,12 +143,13 @@ impl WorkMap {
     }
 }
 
-// Writes the chains of the arc, of which the first is the chain number `start`, into the arc, and gives the
-// number of the first chain behind them.
+// Writes the chains of the arc, of which the first is the chain number `start`, into the arc, and
+// gives the number of the first chain behind them.
 fn rejoin(arc: &mut Vec<Point>, number: u32, chains: &[LiveChain], start: usize) -> usize
     requires known { start ≤ length chains.now }
     requires vertices { All (λ c. 2 ≤ length c.vertices.items) chains.now }
-    requires room { 1 + length (tails (run_of number (drop start chains.now))) ≤ length arc.old.items }
+    requires room { 1 + length (tails (run_of number (drop start chains.now)))
+        ≤ length arc.old.items }
     ensures arc { arc.new.items ≡ rejoined arc.old.items (run_of number (drop start chains.now)) }
     ensures next { result ≡ start + length (run_of number (drop start chains.now)) }
 {
@@ -166,7 +172,8 @@ fn rejoin(arc: &mut Vec<Point>, number: u32, chains: &[LiveChain], start: usize)
 // Writes the positions from place `end` on.
 fn write_at(arc: &mut Vec<Point>, end: usize, rest: &[Point])
     requires { end + length rest.now ≤ length arc.old.items }
-    ensures front { take (end + length rest.now) arc.new.items ≡ take end arc.old.items ++ rest.now }
+    ensures front { take (end + length rest.now) arc.new.items ≡ take end arc.old.items
+        ++ rest.now }
     ensures count { length arc.new.items ≡ length arc.old.items }
 {
     arc[end..end + rest.len()].copy_from_slice(rest);

@@ -10,7 +10,8 @@ use Rattle.arrangement_check.specs.Least.{IsLessPair, IsLessTown}
 pub earlier_says : (e f : EdgeRef) → IsTrue (is_earlier e f) → IsEarlier e f
 earlier_says e f t = elim (or_cases (nat_lt e.arc f.arc) ((e.arc == f.arc) && nat_lt e.at f.at) t) [
   | inl first ↦ inl (ltb-true e.arc f.arc first)
-  | inr both ↦ let parts = and_parts (e.arc == f.arc) (nat_lt e.at f.at) both in inr (eqb-true e.arc f.arc parts.0, ltb-true e.at f.at parts.1)
+  | inr both ↦ let parts = and_parts (e.arc == f.arc) (nat_lt e.at f.at) both in
+      inr (eqb-true e.arc f.arc parts.0, ltb-true e.at f.at parts.1)
 ]
 
 pub not_before_itself : (e : EdgeRef) → ¬ (IsEarlier e e)

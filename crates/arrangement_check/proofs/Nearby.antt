@@ -36,19 +36,37 @@ stands : (a b v : ℤ) → Stands a b v
 stands a b v = elim (at_most_or_above a b) [ inl h ↦ stands_rising a b v h | inr h ↦ stands_falling a b v (omega (arith, sums)) ]
 
 starts_between : (a b : ℤ) → IsBetween a b a
-starts_between a b = elim (at_most_or_above a b) [ inl h ↦ Rising (omega (arith, sums)) h | inr h ↦ Falling (omega (arith, sums)) (omega (arith, sums)) ]
+starts_between a b = elim (at_most_or_above a b) [
+  | inl h ↦ Rising (omega (arith, sums)) h
+  | inr h ↦ Falling (omega (arith, sums)) (omega (arith, sums))
+]
 
 ends_between : (a b : ℤ) → IsBetween a b b
-ends_between a b = elim (at_most_or_above a b) [ inl h ↦ Rising h (omega (arith, sums)) | inr h ↦ Falling (omega (arith, sums)) (omega (arith, sums)) ]
+ends_between a b = elim (at_most_or_above a b) [
+  | inl h ↦ Rising h (omega (arith, sums))
+  | inr h ↦ Falling (omega (arith, sums)) (omega (arith, sums))
+]
 
 meet_by : (a b c d : ℤ) → ¬ (AreRangesApart a b c d) → Stands a b c → Stands a b d → RangesMeet a b c d
 meet_by a b c d near (Within h) other = record { at = c; first = h; second = starts_between c d }
 meet_by a b c d near (Below ca cb) (Within h) = record { at = d; first = h; second = ends_between c d }
-meet_by a b c d near (Below ca cb) (Below da db) = absurd (near (inr (record { a_below_c = ca; a_below_d = cb; b_below_c = da; b_below_d = db })))
-meet_by a b c d near (Below ca cb) (Above ad bd) = record { at = a; first = starts_between a b; second = Rising (omega (arith, sums)) (omega (arith, sums)) }
+meet_by a b c d near (Below ca cb) (Below da db) =
+    absurd (near (inr (record { a_below_c = ca; a_below_d = cb; b_below_c = da; b_below_d = db })))
+meet_by a b c d near (Below ca cb) (Above ad bd) = record {
+  at = a;
+  first = starts_between a b;
+  second =
+      Rising (omega (arith, sums)) (omega (arith, sums));
+}
 meet_by a b c d near (Above ac bc) (Within h) = record { at = d; first = h; second = ends_between c d }
-meet_by a b c d near (Above ac bc) (Below da db) = record { at = a; first = starts_between a b; second = Falling (omega (arith, sums)) (omega (arith, sums)) }
-meet_by a b c d near (Above ac bc) (Above ad bd) = absurd (near (inl (record { a_below_c = ac; a_below_d = ad; b_below_c = bc; b_below_d = bd })))
+meet_by a b c d near (Above ac bc) (Below da db) = record {
+  at = a;
+  first = starts_between a b;
+  second =
+      Falling (omega (arith, sums)) (omega (arith, sums));
+}
+meet_by a b c d near (Above ac bc) (Above ad bd) =
+    absurd (near (inl (record { a_below_c = ac; a_below_d = ad; b_below_c = bc; b_below_d = bd })))
 
 ranges_meet : (a b c d : ℤ) → ¬ (AreRangesApart a b c d) → RangesMeet a b c d
 ranges_meet a b c d near = meet_by a b c d near (stands a b c) (stands a b d)

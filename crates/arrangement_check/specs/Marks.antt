@@ -14,4 +14,5 @@ MarksHeld m marks = (arc : ℕ) → IsMarked marks arc → IsHeld m arc
 
 -- the arcs of edges that clash are marked
 abbrev pub MarksClashes : Map → List Bool → Type 0
-MarksClashes m marks = (e f : EdgeRef) → IsMapEdge m e → IsMapEdge m f → IsEarlier e f → EdgesClash m e f → IsMarked marks e.arc × IsMarked marks f.arc
+MarksClashes m marks = (e f : EdgeRef) → IsMapEdge m e → IsMapEdge m f → IsEarlier e f → EdgesClash m e f
+    → IsMarked marks e.arc × IsMarked marks f.arc

@@ -5,7 +5,8 @@ ghost use Rattle.arc_map.specs.Arranged.{IsArranged};
 use arc_map::ArcMap;
 use std::marker::Model;
 
-/// A map that is arranged: no two of its edges clash, and no feature point lies on an edge. Contracts see the map.
+/// A map that is arranged: no two of its edges clash, and no feature point lies on an edge.
+/// Contracts see the map.
 #[derive(Drop)]
 pub struct Arranged {
     map: ArcMap,

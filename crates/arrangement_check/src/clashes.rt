@@ -8,7 +8,8 @@ use arc_map::{ArcMap, EdgeRef};
 use grid_exact::on_segment;
 use segment_tests::{Joint, Neighbours, clash};
 
-/// Whether two edges of the map, by their numbers, clash: they have a point in common that is no lawful junction.
+/// Whether two edges of the map, by their numbers, clash: they have a point in common that is no
+/// lawful junction.
 pub fn edges_clash(map: &ArcMap, e: EdgeRef, f: EdgeRef) -> bool
     requires first { IsMapEdge map.now e }
     requires second { IsMapEdge map.now f }

@@ -1,5 +1,5 @@
-//! Whether a map is arranged: no two of its edges clash, and no feature point lies on an edge; and which arcs are held where
-//! it is not.
+//! Whether a map is arranged: no two of its edges clash, and no feature point lies on an edge; and
+//! which arcs are held where it is not.
 #![tactic(auto)]
 
 mod arranged;

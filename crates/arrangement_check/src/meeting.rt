@@ -1,6 +1,7 @@
 //! The meeting of a map, which is arranged where it has none.
 ghost use Rattle.std.specs.Prelude.{◌≡◌, ◌↔◌, ◌<◌, ℕ, Err, IfOk, IfNone, IfSome, IsTrue, length};
-ghost use Rattle.arc_map.specs.Arranged.{EdgesClash, HasNoClash, IsArranged, IsEarlier, IsLeastClash, IsLeastPoint, IsMapEdge, PointIsOn};
+ghost use Rattle.arc_map.specs.Arranged.{EdgesClash, HasNoClash, IsArranged, IsEarlier};
+ghost use Rattle.arc_map.specs.Arranged.{IsLeastClash, IsLeastPoint, IsMapEdge, PointIsOn};
 ghost use Rattle.arc_map.specs.declared.refs.EdgeRef.{EdgeRef};
 ghost use Rattle.arrangement_check.specs.declared.meeting.CheckError.{CheckError};
 ghost use Rattle.arrangement_check.specs.Least.{HasNoTown, IsLessPair, IsLessTown, IsNew};
@@ -19,7 +20,8 @@ pub enum CheckError {
     /// These two edges clash, and no lesser pair does: by the first, then by the second.
     #[error("two edges clash")]
     Edges(EdgeRef, EdgeRef),
-    /// No edges clash. This feature point lies on this edge, no lesser one on any, and this one on no lesser edge.
+    /// No edges clash. This feature point lies on this edge, no lesser one on any, and this one on
+    /// no lesser edge.
     #[error("a point lies on an arc")]
     PointOnArc(u32, EdgeRef),
     /// There is no memory.
@@ -38,13 +40,15 @@ impl From<NoMemory> for CheckError {
     }
 }
 
-/// The map as an arranged one, or its meeting: the least clashing pair of edges, or where there is none the least feature
-/// point that lies on an edge, with the least such edge. The map is given up where it is not arranged.
+/// The map as an arranged one, or its meeting: the least clashing pair of edges, or where there is
+/// none the least feature point that lies on an edge, with the least such edge. The map is given up
+/// where it is not arranged.
 pub fn check(alloc: Global, map: ArcMap) -> Result<Arranged, CheckError>
     ensures same { IfOk result (λ arranged. arranged ≡ map) }
     ensures arranged { IfOk result (λ arranged. IsArranged map) }
     ensures edges { (e f : EdgeRef) → result ≡ Err (CheckError.Edges e f) → IsLeastClash map e f }
-    ensures point { (k : ℕ) (e : EdgeRef) → result ≡ Err (CheckError.PointOnArc k e) → IsLeastPoint map k e }
+    ensures point { (k : ℕ) (e : EdgeRef) → result ≡ Err (CheckError.PointOnArc k e)
+        → IsLeastPoint map k e }
 {
     let index = EdgeIndex::build(alloc, &map)?;
     check_over(map, &index)
@@ -56,7 +60,8 @@ pub fn check_over(map: ArcMap, index: &EdgeIndex) -> Result<Arranged, CheckError
     ensures same { IfOk result (λ arranged. arranged ≡ map) }
     ensures arranged { IfOk result (λ arranged. IsArranged map) }
     ensures edges { (e f : EdgeRef) → result ≡ Err (CheckError.Edges e f) → IsLeastClash map e f }
-    ensures point { (k : ℕ) (e : EdgeRef) → result ≡ Err (CheckError.PointOnArc k e) → IsLeastPoint map k e }
+    ensures point { (k : ℕ) (e : EdgeRef) → result ≡ Err (CheckError.PointOnArc k e)
+        → IsLeastPoint map k e }
 {
     if let Some((e, f)) = least_clash(&map, index) {
         return Err(CheckError::Edges(e, f));
@@ -64,14 +69,16 @@ pub fn check_over(map: ArcMap, index: &EdgeIndex) -> Result<Arranged, CheckError
     check_towns(map, index)
 }
 
-/// What `check` answers of a map in which no two edges clash, by an index of the map that is at hand.
+/// What `check` answers of a map in which no two edges clash, by an index of the map that is at
+/// hand.
 pub fn check_towns(map: ArcMap, index: &EdgeIndex) -> Result<Arranged, CheckError>
     requires index { IsIndexOf map index.now }
     requires no_clash { HasNoClash map }
     ensures same { IfOk result (λ arranged. arranged ≡ map) }
     ensures arranged { IfOk result (λ arranged. IsArranged map) }
     ensures edges { (e f : EdgeRef) → result ≡ Err (CheckError.Edges e f) → IsLeastClash map e f }
-    ensures point { (k : ℕ) (e : EdgeRef) → result ≡ Err (CheckError.PointOnArc k e) → IsLeastPoint map k e }
+    ensures point { (k : ℕ) (e : EdgeRef) → result ≡ Err (CheckError.PointOnArc k e)
+        → IsLeastPoint map k e }
 {
     if let Some((town, e)) = least_town(&map, index) {
         return Err(CheckError::PointOnArc(town, e));
@@ -134,7 +141,8 @@ fn least_town(map: &ArcMap, index: &EdgeIndex) -> Option<(u32, EdgeRef)>
     least
 }
 
-// Whether the feature point lies on the edge, and is with it before the other one, or there is no other.
+// Whether the feature point lies on the edge, and is with it before the other one, or there is no
+// other.
 fn lies_below(map: &ArcMap, town: u32, e: EdgeRef, least: Option<(u32, EdgeRef)>) -> bool
     requires point { town < length map.now.points }
     requires edge { IsMapEdge map.now e }

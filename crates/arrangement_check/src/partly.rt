@@ -1,5 +1,6 @@
 //! A map that is arranged but for some arcs, which are held.
-ghost use Rattle.std.specs.Prelude.{◌≡◌, ◌↔◌, ◌<◌, ◌≤◌, ◌^◌, ℕ, IfOk, [], true, Contains, length, slice_set};
+ghost use Rattle.std.specs.Prelude.{◌≡◌, ◌↔◌, ◌<◌, ◌≤◌, ◌^◌, ℕ, IfOk, [], true, Contains, length};
+ghost use Rattle.std.specs.Prelude.{slice_set};
 ghost use Rattle.arc_map.specs.ArcList.{IsArcList};
 ghost use Rattle.arc_map.specs.Arranged.{IsHeld, IsHeldList, IsMapArranged};
 ghost use Rattle.sweep_index.specs.EdgeIndex.{IsIndexOf};
@@ -13,8 +14,9 @@ use std::alloc::{AllocError, Global};
 use std::marker::Model;
 use sweep_index::EdgeIndex;
 
-/// A map with a list of its arcs, beside which it is arranged: edges that clash are edges of these arcs, and a feature point
-/// that lies on an edge lies on edges of these arcs alone. Contracts see the map and the list.
+/// A map with a list of its arcs, beside which it is arranged: edges that clash are edges of these
+/// arcs, and a feature point that lies on an edge lies on edges of these arcs alone. Contracts see
+/// the map and the list.
 #[derive(Drop)]
 pub struct Partly {
     map: ArcMap,
@@ -74,8 +76,8 @@ impl Partly {
     }
 }
 
-/// The map with its held arcs: those of which an edge clashes with some edge, or on which a feature point lies. The only error
-/// is want of memory.
+/// The map with its held arcs: those of which an edge clashes with some edge, or on which a feature
+/// point lies. The only error is want of memory.
 pub fn hold(alloc: Global, map: ArcMap) -> Result<Partly, NoMemory>
     ensures same { IfOk result (λ partly. partly.map ≡ map) }
     ensures held { IfOk result (λ partly. IsHeldList map partly.held) }
@@ -145,7 +147,8 @@ fn mark(marks: &mut [bool], arc: u32)
 fn marked(alloc: Global, marks: &[bool]) -> Result<Vec<u32>, AllocError>
     requires { length marks.now ≤ 2 ^ 20 }
     ensures list { IfOk result (λ arcs. IsArcList arcs.items) }
-    ensures exact { IfOk result (λ arcs. (arc : ℕ) → Contains arcs.items arc ↔ IsMarked marks.now arc) }
+    ensures exact { IfOk result (λ arcs. (arc : ℕ) → Contains arcs.items arc
+        ↔ IsMarked marks.now arc) }
 {
     let mut arcs = Vec::new(alloc);
     for (arc, mark) in marks.iter().enumerate() {

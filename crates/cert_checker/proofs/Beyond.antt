@@ -1,13 +1,15 @@
 -- A place beyond all places of a closed walk, on one of the four sides: it is on no edge of the walk, and the walk is crossed
 -- from it an even number of times.
-use Rattle.std.proofs.Common.{◌≡◌, Bool, true, false, List, [], ◌∷◌, ℤ, pos, negsuc, ◌+ℤ◌, ◌-ℤ◌, ◌*ℤ◌, ◌≤ℤ◌, ◌<ℤ◌, arith, refl, sym, ap, ◌∙◌}
+use Rattle.std.proofs.Common.{◌≡◌, Bool, true, false, List, [], ◌∷◌, ℤ, pos, negsuc, ◌+ℤ◌, ◌-ℤ◌, ◌*ℤ◌, ◌≤ℤ◌, ◌<ℤ◌, arith, refl, sym, ap}
+use Rattle.std.proofs.Common.{◌∙◌}
 use Rattle.std.specs.List.{AllByRecursion}
 use Rattle.grid_exact.specs.Geometry.{Place, area_of, IsBefore, IsOnSegment}
 use Rattle.grid_exact.specs.Geometry.IsBefore.{Left, Below}
 use Rattle.grid_exact.specs.Crossing.{is_before, is_crossed}
 use Rattle.grid_exact.specs.Walks.{EachEdge, end_of, count_edges, is_odd, differ}
 use Rattle.grid_exact.proofs.WholeLaws.{sums}
-use Rattle.grid_exact.proofs.Signs.{Negative, Zero, Positive, sign_of, times_nonnegative, times_positive, times_negative, nonnegative_times_nonpositive}
+use Rattle.grid_exact.proofs.Signs.{Negative, Zero, Positive, sign_of, times_nonnegative, times_positive, times_negative}
+use Rattle.grid_exact.proofs.Signs.{nonnegative_times_nonpositive}
 use Rattle.grid_exact.proofs.Polynomial.{Whole, ◌⊕◌, ◌⊖◌, ◌⊗◌, ◌≈◌, ◌times◌, Variable, identity_6, by_multiples}
 use Rattle.grid_exact.proofs.Orders.{lt_yes, lt_no, before_yes, before_no, compared, Before, Same, After}
 use Rattle.grid_exact.proofs.Commons.{up_of}
@@ -20,7 +22,9 @@ use Rattle.grid_exact.proofs.Walks.{counted_alike}
 not_before_both : (n s a b v : ℤ) → pos 1 ≤ℤ n → pos 0 ≤ℤ s → s ≤ℤ n → n *ℤ v ≡ n *ℤ a +ℤ s *ℤ (b -ℤ a) → v <ℤ a → v <ℤ b → ⊥
 not_before_both n s a b v one from to place before_a before_b =
     let x = Variable in
-    let sum : (n -ℤ s) *ℤ (a -ℤ v) +ℤ s *ℤ (b -ℤ v) ≡ pos 0 = by_multiples (n ∷ s ∷ a ∷ b ∷ v ∷ []) ((x 0 ⊖ x 1) ⊗ (x 2 ⊖ x 4) ⊕ x 1 ⊗ (x 3 ⊖ x 4) ≈ Whole (pos 0)) ((Whole (negsuc 0) times (x 0 ⊗ x 4 ≈ x 0 ⊗ x 2 ⊕ x 1 ⊗ (x 3 ⊖ x 2))) ∷ []) (place, tt) refl in
+    let sum : (n -ℤ s) *ℤ (a -ℤ v) +ℤ s *ℤ (b -ℤ v) ≡ pos 0 = by_multiples (n ∷ s ∷ a ∷ b ∷ v ∷ [])
+    ((x 0 ⊖ x 1) ⊗ (x 2 ⊖ x 4) ⊕ x 1 ⊗ (x 3 ⊖ x 4) ≈ Whole (pos 0))
+    ((Whole (negsuc 0) times (x 0 ⊗ x 4 ≈ x 0 ⊗ x 2 ⊕ x 1 ⊗ (x 3 ⊖ x 2))) ∷ []) (place, tt) refl in
     elim (sign_of s) [
       | Negative h ↦ omega (arith, sums)
       | Zero h ↦
@@ -36,7 +40,9 @@ not_before_both n s a b v one from to place before_a before_b =
 not_past_both : (n s a b v : ℤ) → pos 1 ≤ℤ n → pos 0 ≤ℤ s → s ≤ℤ n → n *ℤ v ≡ n *ℤ a +ℤ s *ℤ (b -ℤ a) → a <ℤ v → b <ℤ v → ⊥
 not_past_both n s a b v one from to place past_a past_b =
     let x = Variable in
-    let sum : (n -ℤ s) *ℤ (v -ℤ a) +ℤ s *ℤ (v -ℤ b) ≡ pos 0 = by_multiples (n ∷ s ∷ a ∷ b ∷ v ∷ []) ((x 0 ⊖ x 1) ⊗ (x 4 ⊖ x 2) ⊕ x 1 ⊗ (x 4 ⊖ x 3) ≈ Whole (pos 0)) ((Whole (pos 1) times (x 0 ⊗ x 4 ≈ x 0 ⊗ x 2 ⊕ x 1 ⊗ (x 3 ⊖ x 2))) ∷ []) (place, tt) refl in
+    let sum : (n -ℤ s) *ℤ (v -ℤ a) +ℤ s *ℤ (v -ℤ b) ≡ pos 0 = by_multiples (n ∷ s ∷ a ∷ b ∷ v ∷ [])
+    ((x 0 ⊖ x 1) ⊗ (x 4 ⊖ x 2) ⊕ x 1 ⊗ (x 4 ⊖ x 3) ≈ Whole (pos 0))
+    ((Whole (pos 1) times (x 0 ⊗ x 4 ≈ x 0 ⊗ x 2 ⊕ x 1 ⊗ (x 3 ⊖ x 2))) ∷ []) (place, tt) refl in
     elim (sign_of s) [
       | Negative h ↦ omega (arith, sums)
       | Zero h ↦
@@ -72,7 +78,8 @@ beyond_off Under p a b h k on = not_before_both on.denominator on.numerator a.y 
 beyond_off Over p a b h k on = not_past_both on.denominator on.numerator a.y b.y p.y on.whole on.from_start on.to_end on.up h k
 
 area_parts : (a b p : Place) → area_of a b p ≡ (b.x -ℤ p.x) *ℤ (p.y -ℤ a.y) +ℤ (p.x -ℤ a.x) *ℤ (p.y -ℤ b.y)
-area_parts a b p = identity_6 a.x a.y b.x b.y p.x p.y (λ ax ay bx by px py. (bx ⊖ ax) ⊗ (py ⊖ ay) ⊖ (by ⊖ ay) ⊗ (px ⊖ ax) ≈ (bx ⊖ px) ⊗ (py ⊖ ay) ⊕ (px ⊖ ax) ⊗ (py ⊖ by)) refl
+area_parts a b p = identity_6 a.x a.y b.x b.y p.x p.y (λ ax ay bx by px py.
+    (bx ⊖ ax) ⊗ (py ⊖ ay) ⊖ (by ⊖ ay) ⊗ (px ⊖ ax) ≈ (bx ⊖ px) ⊗ (py ⊖ ay) ⊕ (px ⊖ ax) ⊗ (py ⊖ by)) refl
 
 across_or_same : (a b : Place) → IsBefore a b → a.x ≤ℤ b.x
 across_or_same a b (Left h) = omega (arith, sums)
@@ -82,16 +89,20 @@ over_area : (a b p : Place) → IsBefore a p → IsBefore p b → a.y <ℤ p.y �
 over_area a b p ap' pb h k =
     let l = across_or_same a p ap' in
     let r = across_or_same p b pb in
-    let first : pos 0 ≤ℤ ((b.x -ℤ p.x) *ℤ (p.y -ℤ a.y)) = times_nonnegative (b.x -ℤ p.x) (p.y -ℤ a.y) (omega (arith, sums)) (omega (arith, sums)) in
-    let second : pos 0 ≤ℤ ((p.x -ℤ a.x) *ℤ (p.y -ℤ b.y)) = times_nonnegative (p.x -ℤ a.x) (p.y -ℤ b.y) (omega (arith, sums)) (omega (arith, sums)) in
+    let first : pos 0 ≤ℤ ((b.x -ℤ p.x) *ℤ (p.y -ℤ a.y)) = times_nonnegative (b.x -ℤ p.x) (p.y -ℤ a.y) (omega (arith, sums))
+    (omega (arith, sums)) in
+    let second : pos 0 ≤ℤ ((p.x -ℤ a.x) *ℤ (p.y -ℤ b.y)) = times_nonnegative (p.x -ℤ a.x) (p.y -ℤ b.y) (omega (arith, sums))
+    (omega (arith, sums)) in
     omega (arith, sums, area_parts a b p)
 
 under_area : (a b p : Place) → IsBefore a p → IsBefore p b → p.y <ℤ a.y → p.y <ℤ b.y → area_of a b p <ℤ pos 0
 under_area a b p (Below e l) pb h k = absurd (omega (arith, sums))
 under_area a b p (Left l) pb h k =
     let r = across_or_same p b pb in
-    let first : ((b.x -ℤ p.x) *ℤ (p.y -ℤ a.y)) ≤ℤ pos 0 = nonnegative_times_nonpositive (b.x -ℤ p.x) (p.y -ℤ a.y) (omega (arith, sums)) (omega (arith, sums)) in
-    let second : ((p.x -ℤ a.x) *ℤ (p.y -ℤ b.y)) <ℤ pos 0 = times_negative (p.x -ℤ a.x) (p.y -ℤ b.y) (omega (arith, sums)) (omega (arith, sums)) in
+    let first : ((b.x -ℤ p.x) *ℤ (p.y -ℤ a.y)) ≤ℤ pos 0 = nonnegative_times_nonpositive (b.x -ℤ p.x) (p.y -ℤ a.y) (omega (arith, sums))
+    (omega (arith, sums)) in
+    let second : ((p.x -ℤ a.x) *ℤ (p.y -ℤ b.y)) <ℤ pos 0 = times_negative (p.x -ℤ a.x) (p.y -ℤ b.y) (omega (arith, sums))
+    (omega (arith, sums)) in
     omega (arith, sums, area_parts a b p)
 
 -- a place is not level with one that it is over, or under
@@ -127,11 +138,13 @@ under_crossed p a b h k = elim (compared a p) [
   | Before l ↦ elim (compared b p) [
     | Same e ↦ absurd (not_level_under b p e k)
     | Before r ↦ crossed_after p a b l r ∙ sym (both_marks a b p true true (before_yes a p l) (before_yes b p r))
-    | After r ↦ crossed_between p a b l r ∙ lt_yes (area_of a b p) (pos 0) (under_area a b p l r h k) ∙ sym (both_marks a b p true false (before_yes a p l) (before_no b p r))
+    | After r ↦ crossed_between p a b l r ∙ lt_yes (area_of a b p) (pos 0) (under_area a b p l r h k)
+        ∙ sym (both_marks a b p true false (before_yes a p l) (before_no b p r))
   ]
   | After l ↦ elim (compared b p) [
     | Same e ↦ absurd (not_level_under b p e k)
-    | Before r ↦ crossed_turned p a b ∙ crossed_between p b a r l ∙ lt_yes (area_of b a p) (pos 0) (under_area b a p r l k h) ∙ sym (both_marks a b p false true (before_no a p l) (before_yes b p r))
+    | Before r ↦ crossed_turned p a b ∙ crossed_between p b a r l ∙ lt_yes (area_of b a p) (pos 0) (under_area b a p r l k h)
+        ∙ sym (both_marks a b p false true (before_no a p l) (before_yes b p r))
     | After r ↦ crossed_before p a b l r ∙ sym (both_marks a b p false false (before_no a p l) (before_no b p r))
   ]
 ]
@@ -145,7 +158,8 @@ mark_of ToTheRight p q = false
 mark_of Under p q = is_before q p
 mark_of Over p q = false
 
-beyond_crossed : (side : Side) (p a b : Place) → IsOn side p a → IsOn side p b → is_crossed p a b ≡ differ (mark_of side p a) (mark_of side p b)
+beyond_crossed : (side : Side) (p a b : Place) → IsOn side p a → IsOn side p b
+    → is_crossed p a b ≡ differ (mark_of side p a) (mark_of side p b)
 beyond_crossed ToTheLeft p a b h k = crossed_before p a b (Left h) (Left k)
 beyond_crossed ToTheRight p a b h k = crossed_after p a b (Left h) (Left k)
 beyond_crossed Under p a b h k = under_crossed p a b h k
@@ -169,11 +183,18 @@ marks_even false true false e = cc
 marks_even false false true e = cc
 marks_even false false false e = refl
 
-edges_beyond : (side : Side) (p v : Place) (ws : List Place) → AllByRecursion (IsOn side p) (v ∷ ws) → EachEdge (λ a b. differ (differ (is_crossed p a b) (never a b)) (differ (mark_of side p a) (mark_of side p b)) ≡ false) v ws
+edges_beyond : (side : Side) (p v : Place) (ws : List Place) → AllByRecursion (IsOn side p) (v ∷ ws)
+    → EachEdge (λ a b. differ (differ (is_crossed p a b) (never a b)) (differ (mark_of side p a) (mark_of side p b)) ≡ false) v ws
 unfolding never
 edges_beyond side p v [] h = tt
-edges_beyond side p v (w ∷ ws) h = (marks_even (is_crossed p v w) (mark_of side p v) (mark_of side p w) (beyond_crossed side p v w h.0 h.1.0), edges_beyond side p w ws h.1)
+edges_beyond side p v (w ∷ ws) h = (
+  marks_even (is_crossed p v w) (mark_of side p v) (mark_of side p w)
+      (beyond_crossed side p v w h.0 h.1.0),
+  edges_beyond side p w ws h.1,
+)
 
 -- From beyond a closed walk it is crossed an even number of times.
-pub beyond_even : (side : Side) (p v : Place) (ws : List Place) → AllByRecursion (IsOn side p) (v ∷ ws) → end_of v ws ≡ v → is_odd (count_edges (is_crossed p) v ws) ≡ false
-beyond_even side p v ws h closed = counted_alike (is_crossed p) never (mark_of side p) v ws (edges_beyond side p v ws h) closed ∙ none_counted v ws
+pub beyond_even : (side : Side) (p v : Place) (ws : List Place) → AllByRecursion (IsOn side p) (v ∷ ws) → end_of v ws ≡ v
+    → is_odd (count_edges (is_crossed p) v ws) ≡ false
+beyond_even side p v ws h closed = counted_alike (is_crossed p) never (mark_of side p) v ws (edges_beyond side p v ws h) closed
+    ∙ none_counted v ws

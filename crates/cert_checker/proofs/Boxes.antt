@@ -15,14 +15,22 @@ pub lower_left_itself : (a : Place) → IsLowerLeft a a
 lower_left_itself a = record { across = omega (arith, sums); up = omega (arith, sums) }
 
 -- where a box has room for the corners of another, it has room for all that this one has
-pub box_grown : (low high low' high' : Place) → IsInBox low' high' low → IsInBox low' high' high → (q : Place) → IsInBox low high q → IsInBox low' high' q
-box_grown low high low' high' first second q h = record { from_low = then_lower_left low' low q first.from_low h.from_low; to_high = then_lower_left q high high' h.to_high second.to_high }
+pub box_grown : (low high low' high' : Place) → IsInBox low' high' low → IsInBox low' high' high → (q : Place) → IsInBox low high q
+    → IsInBox low' high' q
+box_grown low high low' high' first second q h = record {
+  from_low = then_lower_left low' low q first.from_low h.from_low;
+  to_high =
+      then_lower_left q high high' h.to_high second.to_high;
+}
 
-pub box_more : (low high low' high' v : Place) (ps : List Place) (i : ℕ) (p : Place) → i < length ps → p ≡ get_or ps i p → IsInBox low' high' low → IsInBox low' high' high → IsInBox low' high' p → All (IsInBox low high) (v ∷ take i ps) → All (IsInBox low' high') (v ∷ take (i + 1) ps)
+pub box_more : (low high low' high' v : Place) (ps : List Place) (i : ℕ) (p : Place) → i < length ps → p ≡ get_or ps i p
+    → IsInBox low' high' low → IsInBox low' high' high → IsInBox low' high' p → All (IsInBox low high) (v ∷ take i ps)
+    → All (IsInBox low' high') (v ∷ take (i + 1) ps)
 box_more low high low' high' v ps i p within read first second here all =
     let grown = All-weaker (IsInBox low high) (IsInBox low' high') (box_grown low high low' high' first second) (v ∷ take i ps) all in
     All-cons (IsInBox low' high') v (take (i + 1) ps) (All-head (IsInBox low' high') v (take i ps) grown)
     (All-more (IsInBox low' high') ps i p within (All-tail (IsInBox low' high') v (take i ps) grown) (subst (IsInBox low' high') read here))
 
 pub box_start : (v : Place) (ps : List Place) → All (IsInBox v v) (v ∷ take 0 ps)
-box_start v ps = All-cons (IsInBox v v) v [] (record { from_low = lower_left_itself v; to_high = lower_left_itself v }) (All-nil (IsInBox v v))
+box_start v ps = All-cons (IsInBox v v) v [] (record { from_low = lower_left_itself v; to_high = lower_left_itself v })
+    (All-nil (IsInBox v v))

@@ -6,20 +6,23 @@ use Rattle.std.proofs.lemmas.Option.{none-some, same_Some, slice_get-get_or, sli
 use Rattle.cert_checker.specs.Difference.{IsFirstDifference}
 
 -- the lists differ at a place within both
-pub differ_within : {A : Type 0} (xs ys : List A) (k : ℕ) (d : A) → k < length xs → k < length ys → take k xs ≡ take k ys → (get_or xs k d ≡ get_or ys k d → ⊥) → IsFirstDifference xs ys k
+pub differ_within : {A : Type 0} (xs ys : List A) (k : ℕ) (d : A) → k < length xs → k < length ys → take k xs ≡ take k ys
+    → (get_or xs k d ≡ get_or ys k d → ⊥) → IsFirstDifference xs ys k
 differ_within xs ys k d in_xs in_ys same other = record {
   same_before = same;
   differ = λ e. other (same_Some (get_or xs k d) (get_or ys k d) (sym (slice_get-get_or xs k d in_xs) ∙ e ∙ slice_get-get_or ys k d in_ys));
 }
 
 -- the first list has ended
-pub differ_first_ended : {A : Type 0} (xs ys : List A) (k : ℕ) (d : A) → length xs ≤ k → k < length ys → take k xs ≡ take k ys → IsFirstDifference xs ys k
+pub differ_first_ended : {A : Type 0} (xs ys : List A) (k : ℕ) (d : A) → length xs ≤ k → k < length ys → take k xs ≡ take k ys
+    → IsFirstDifference xs ys k
 differ_first_ended xs ys k d ended within same = record {
   same_before = same;
   differ = λ e. none-some (get_or ys k d) (sym (slice_get_past xs k ended) ∙ e ∙ slice_get-get_or ys k d within);
 }
 
-pub differ_second_ended : {A : Type 0} (xs ys : List A) (k : ℕ) (d : A) → k < length xs → length ys ≤ k → take k xs ≡ take k ys → IsFirstDifference xs ys k
+pub differ_second_ended : {A : Type 0} (xs ys : List A) (k : ℕ) (d : A) → k < length xs → length ys ≤ k → take k xs ≡ take k ys
+    → IsFirstDifference xs ys k
 differ_second_ended xs ys k d within ended same = record {
   same_before = same;
   differ = λ e. none-some (get_or xs k d) (sym (slice_get_past ys k ended) ∙ sym e ∙ slice_get-get_or xs k d within);

@@ -1,5 +1,6 @@
 -- Whether a list of arcs has an arc, as a test and as a fact.
-use Rattle.std.proofs.Common.{◌≡◌, ◌↔◌, ◌<◌, ℕ, zero, suc, Bool, true, false, not, IsTrue, List, [], ◌∷◌, length, get_or, refl, ap, sym, arith, inl, inr}
+use Rattle.std.proofs.Common.{◌≡◌, ◌↔◌, ◌<◌, ℕ, zero, suc, Bool, true, false, not, IsTrue, List, [], ◌∷◌, length, get_or, refl, ap, sym}
+use Rattle.std.proofs.Common.{arith, inl, inr}
 use Rattle.std.specs.Prelude.{◌==◌, Contains}
 use Rattle.std.specs.List.{list_any}
 use Rattle.std.proofs.lemmas.Bool.{eq-eqb, eqb-true, false≢true, or_cases, or_left, or_right}
@@ -30,4 +31,5 @@ same_truth false false f g = refl
 
 -- what the search in the list says
 pub held_told : (held : List ℕ) (arc : ℕ) (r : Bool) → (IsTrue r ↔ Contains held arc) → not r ≡ not (is_held held arc)
-held_told held arc r says = ap not (same_truth r (is_held held arc) (λ e. held_from_contains held arc (says.0 e)) (λ e. says.1 (contains_from_held held arc e)))
+held_told held arc r says = ap not (same_truth r (is_held held arc) (λ e. held_from_contains held arc (says.0 e)) (λ e.
+    says.1 (contains_from_held held arc e)))

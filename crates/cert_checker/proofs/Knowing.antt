@@ -27,12 +27,16 @@ arranged_of held m refs known =
     let cut = chains_cut_map m (map (chain_in m) refs) known.lie.cut in
     (arranged_by_names held m).1 ((cut.arranged held).1 known.arranged)
 
-pub known_thinned : (wx wy bound : ℤ) (held : List ℕ) (w : Work) (k : ℕ) (r : Record) → IsKnown held w → k < length w.chains → ¬ (Contains held (chain_at w.chains k).first.arc) → IsAccepted (IsAllowedPair (IsWithinBound wx wy bound) w.chains w.read.points k) (chain_at w.chains k) r → IsKnown held (thinned_work w k r.kept)
+pub known_thinned : (wx wy bound : ℤ) (held : List ℕ) (w : Work) (k : ℕ) (r : Record) → IsKnown held w → k < length w.chains
+    → ¬ (Contains held (chain_at w.chains k).first.arc)
+    → IsAccepted (IsAllowedPair (IsWithinBound wx wy bound) w.chains w.read.points k) (chain_at w.chains k) r
+    → IsKnown held (thinned_work w k r.kept)
 known_thinned wx wy bound held w k r known within free accepted =
     let Pair = IsAllowedPair (IsWithinBound wx wy bound) w.chains w.read.points k in
     let c = chain_at w.chains k in
     let leads = leads_from Pair (length c.rest) r.kept (path_from Pair c r.kept accepted.kept accepted.steps) in
-    let keeps = path_by_numbers_keeps_map wx wy bound w.chains w.read.points k (drop 1 r.kept) within known.chains (known.arranged k free) leads in
+    let keeps = path_by_numbers_keeps_map wx wy bound w.chains w.read.points k (drop 1 r.kept) within known.chains (known.arranged k free)
+    leads in
     record { lie = known.lie; chains = keeps.chains_stay; arranged = keeps.arranged held known.arranged }
 
 -- kept places are places of the chain

@@ -1,7 +1,8 @@
 -- The parts of a run of a chain: its ends, and what is between them, by places and by vertices.
 use Rattle.std.proofs.Common.{◌≡◌, ◌∙◌, ◌+◌, ◌-◌, ◌<◌, ◌≤◌, ℕ, List, [], ◌∷◌, ◌++◌, length, get_or, take, drop, map, sym, ap, arith}
 use Rattle.std.specs.List.{between}
-use Rattle.std.proofs.lemmas.List.{drop-map, get_or_default, get_or-drop, get_or-take, get_or-map, length-drop, length-map, length-take-le, take-map, take_all, take_more, take-take}
+use Rattle.std.proofs.lemmas.List.{drop-map, get_or_default, get_or-drop, get_or-take, get_or-map, length-drop, length-map, length-take-le}
+use Rattle.std.proofs.lemmas.List.{take-map, take_all, take_more, take-take}
 use Rattle.grid_exact.specs.Geometry.{Place}
 use Rattle.arc_map.specs.Arranged.{nowhere}
 use Rattle.arc_map.specs.Chains.{Chain, chain_places}
@@ -17,7 +18,8 @@ split_last first rest some =
     let all : length rest ≤ (length rest - 1) + 1 = omega arith in
     sym (take_all ((length rest - 1) + 1) rest all) ∙ take_more rest (length rest - 1) first last
 
-pub last_is_end : (first last : Place) (rest : List Place) → 0 < length rest → last ≡ get_or rest (length rest - 1) last → last ≡ run_end first rest
+pub last_is_end : (first last : Place) (rest : List Place) → 0 < length rest → last ≡ get_or rest (length rest - 1) last
+    → last ≡ run_end first rest
 last_is_end first last rest some read =
     let within : length rest - 1 < length rest = omega arith in
     read ∙ get_or_default rest (length rest - 1) last first within
@@ -31,7 +33,8 @@ pub record RunParts (ps : List Place) (i j : ℕ) (first : Place) (rest : List P
   pub inner : run_inner rest ≡ between (i + 1) j ps
   pub end : run_end first rest ≡ place_at ps j
 
-pub run_parts : (ps : List Place) (i j : ℕ) (first : Place) → i < j → j < length ps → first ≡ get_or ps i first → RunParts ps i j first (take (j + 1 - (i + 1)) (drop (i + 1) ps))
+pub run_parts : (ps : List Place) (i j : ℕ) (first : Place) → i < j → j < length ps → first ≡ get_or ps i first
+    → RunParts ps i j first (take (j + 1 - (i + 1)) (drop (i + 1) ps))
 run_parts ps i j first order within read =
     let rest = take (j + 1 - (i + 1)) (drop (i + 1) ps) in
     let size : length (drop (i + 1) ps) ≡ length ps - (i + 1) = length-drop (i + 1) ps in

@@ -14,11 +14,13 @@ use Rattle.arc_map.specs.Work.{LiesInArc, chain_in, vertex_in}
 use Rattle.arc_map.specs.declared.refs.ChainRef.{ChainRef}
 use Rattle.map_index.specs.MapIndex.{no_ref}
 
-pub chain_of_map : (m : Map) (refs : List ChainRef) (k : ℕ) → k < length refs → chain_at (map (chain_in m) refs) k ≡ chain_in m (get_or refs k no_ref)
+pub chain_of_map : (m : Map) (refs : List ChainRef) (k : ℕ) → k < length refs
+    → chain_at (map (chain_in m) refs) k ≡ chain_in m (get_or refs k no_ref)
 chain_of_map m refs k known = get_or-map (chain_in m) refs k no_ref no_chain known
 
 rest_count : (m : Map) (r : ChainRef) → length (chain_in m r).rest ≡ r.to - r.«from»
-rest_count m r = length-map (range_with_len (r.«from» + 1) (r.to - r.«from»)) (vertex_in m r.arc) ∙ length-range_with_len (r.«from» + 1) (r.to - r.«from»)
+rest_count m r = length-map (range_with_len (r.«from» + 1) (r.to - r.«from»)) (vertex_in m r.arc)
+    ∙ length-range_with_len (r.«from» + 1) (r.to - r.«from»)
 
 -- a property of all positions of the arcs is one of the vertices of a chain that lies in its arc
 pub read_places : (P : Place → Type 0) (m : Map) (r : ChainRef) → LiesInArc m r → All (All P) m.arcs → All P (chain_places (chain_in m r))
@@ -34,5 +36,7 @@ read_places P m r lies all =
         let known : n < length (chain_in m r).rest = omega (arith, within, length-map (chain_in m r).rest (λ v. v.place)) in
         let inside : n < r.to - r.«from» = omega (arith, known, rest_count m r) in
         subst P
-        (sym (get_or-map (λ v. v.place) (chain_in m r).rest n (vertex_in m r.arc 0) nowhere known ∙ ap (λ v. v.place) (get_or-map-range_with_len (vertex_in m r.arc) (r.«from» + 1) (r.to - r.«from») n (r.«from» + 1 + n) (vertex_in m r.arc 0) inside refl)))
+        (sym (get_or-map (λ v. v.place) (chain_in m r).rest n (vertex_in m r.arc 0) nowhere known
+        ∙ ap (λ v. v.place) (get_or-map-range_with_len (vertex_in m r.arc) (r.«from» + 1) (r.to - r.«from») n (r.«from» + 1 + n)
+        (vertex_in m r.arc 0) inside refl)))
         (at (r.«from» + 1 + n) (omega (arith, inside, lies.within)))

@@ -1,5 +1,6 @@
 -- What is to be said of a certificate for a map: Yes, or the first reason against it; and what the chains are then.
-use Rattle.std.specs.Prelude.{◌≡◌, ◌⊎◌, ◌+◌, ◌-◌, ◌<◌, ◌≤◌, ◌==◌, ℕ, ℤ, Bool, not, List, [], ◌∷◌, drop, filter, length, map, slice_index, unsigned_abs}
+use Rattle.std.specs.Prelude.{◌≡◌, ◌⊎◌, ◌+◌, ◌-◌, ◌<◌, ◌≤◌, ◌==◌, ℕ, ℤ, Bool, not, List, [], ◌∷◌, drop, filter, length, map, slice_index}
+use Rattle.std.specs.Prelude.{unsigned_abs}
 use Rattle.std.specs.List.{enumerate_from, list_any}
 use Rattle.grid_exact.specs.Geometry.{Place}
 use Rattle.grid_exact.specs.Weights.{Scales}
@@ -70,7 +71,8 @@ IsMismatch d held refs c (No Version) = ¬ (HasVersion d c)
 IsMismatch d held refs c (No Bound) = HasVersion d c × ¬ (HasBound d c)
 IsMismatch d held refs c (No Weights) = HasVersion d c × HasBound d c × ¬ (HasWeights d c)
 IsMismatch d held refs c (No (Held k)) = HasVersion d c × HasBound d c × HasWeights d c × IsFirstDifference c.held held k
-IsMismatch d held refs c (No (Chains k)) = HasVersion d c × HasBound d c × HasWeights d c × (c.held ≡ held) × IsFirstDifference (map record_spot c.entries) (map chain_spot (free_chains held refs)) k
+IsMismatch d held refs c (No (Chains k)) = HasVersion d c × HasBound d c × HasWeights d c × (c.held ≡ held)
+    × IsFirstDifference (map record_spot c.entries) (map chain_spot (free_chains held refs)) k
 IsMismatch d held refs c _ = ⊥
 
 -- ---- one entry
@@ -119,7 +121,8 @@ abbrev pub IsFault : (ℕ → ℕ → Type 0) → Chain → ℕ → Record → V
 IsFault Pair k e r (No (Kept n)) = (n ≡ e) × ¬ (AreKeptIn k r.kept)
 IsFault Pair k e r (No (Path n i j)) = (n ≡ e) × AreKeptIn k r.kept × IsFirstBadStep Pair r.kept i j
 IsFault Pair k e r (No (Ends n)) = (n ≡ e) × AreKeptIn k r.kept × AreSteps Pair r.kept × ¬ (EndWell (length k.rest) r.kept r.layers)
-IsFault Pair k e r (No (Layers n i j)) = (n ≡ e) × AreKeptIn k r.kept × AreSteps Pair r.kept × EndWell (length k.rest) r.kept r.layers × IsFirstFall Pair (length k.rest) r.layers i j
+IsFault Pair k e r (No (Layers n i j)) = (n ≡ e) × AreKeptIn k r.kept × AreSteps Pair r.kept × EndWell (length k.rest) r.kept r.layers
+    × IsFirstFall Pair (length k.rest) r.layers i j
 IsFault Pair k e r _ = ⊥
 
 -- ---- all entries
@@ -139,7 +142,8 @@ AreJudged d points chains numbers e [] verdict after = (verdict ≡ Yes) × (cha
 AreJudged d points chains [] e (r ∷ rs) verdict after = ⊥
 AreJudged d points chains (k ∷ ks) e (r ∷ rs) verdict after =
     (IsFault (AllowedIn d points chains k) (chain_at chains k) e r verdict × (chains ≡ after))
-    ⊎ (IsAccepted (AllowedIn d points chains k) (chain_at chains k) r × AreJudged d points (replaced chains k r) ks (e + 1) rs verdict after)
+    ⊎ (IsAccepted (AllowedIn d points chains k) (chain_at chains k) r
+    × AreJudged d points (replaced chains k r) ks (e + 1) rs verdict after)
 
 -- the verdict on the certificate for a map with these held arcs, whose chains are as read; and the chains at the end
 abbrev pub IsJudged : Demand → List ℕ → Work → Content → Verdict → List Chain → Type 0

@@ -22,12 +22,15 @@ pub record KeepsFewest (Pair : ℕ → ℕ → Type 0) (m : ℕ) (r : Record) : 
 
 -- A record that is accepted in a map keeps a path of allowed pairs with fewest entries.
 abbrev pub AcceptedKeepFewest : Type 0
-AcceptedKeepFewest = (d : Demand) (points : List Place) (chains : List Chain) (k : ℕ) (r : Record) → IsAccepted (AllowedIn d points chains k) (chain_at chains k) r → KeepsFewest (AllowedIn d points chains k) (length (chain_at chains k).rest) r
+AcceptedKeepFewest = (d : Demand) (points : List Place) (chains : List Chain) (k : ℕ) (r : Record)
+    → IsAccepted (AllowedIn d points chains k) (chain_at chains k) r
+    → KeepsFewest (AllowedIn d points chains k) (length (chain_at chains k).rest) r
 
 -- A map arranged beside held arcs, whose certificate is judged Yes: the judged map is arranged beside them, and each feature point is in
 -- the same polygons.
 abbrev pub YesIsSound : Type 0
-YesIsSound = (d : Demand) (held : List ℕ) (m : Map) (refs : List ChainRef) (c : Content) (after : List Chain) → AreChainsIn m refs → IsMapArranged held m → IsJudged d held (work_of m refs) c Yes after → OutcomeOf held m after
+YesIsSound = (d : Demand) (held : List ℕ) (m : Map) (refs : List ChainRef) (c : Content) (after : List Chain) → AreChainsIn m refs
+    → IsMapArranged held m → IsJudged d held (work_of m refs) c Yes after → OutcomeOf held m after
 
 -- each skipped vertex is within the bound of the edge that skips it
 abbrev pub SkipNearby : (Place → Place → Place → Type 0) → Vertex → List Vertex → Vertex → Type 0
@@ -46,4 +49,5 @@ pub record KeepsChains (d : Demand) (held : List ℕ) (before after : List Chain
 -- Where the certificate is judged Yes, each chain keeps its ends, each skipped vertex is within the bound of its edge, and the chains of
 -- held arcs stay.
 abbrev pub YesKeepsChains : Type 0
-YesKeepsChains = (d : Demand) (held : List ℕ) (m : Map) (refs : List ChainRef) (c : Content) (after : List Chain) → IsJudged d held (work_of m refs) c Yes after → KeepsChains d held (map (chain_in m) refs) after
+YesKeepsChains = (d : Demand) (held : List ℕ) (m : Map) (refs : List ChainRef) (c : Content) (after : List Chain)
+    → IsJudged d held (work_of m refs) c Yes after → KeepsChains d held (map (chain_in m) refs) after

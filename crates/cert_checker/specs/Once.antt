@@ -8,4 +8,5 @@ use Rattle.cert_checker.specs.declared.verdicts.Verdict.{Verdict}
 
 -- No certificate has two verdicts for one map, nor two outcomes.
 abbrev pub JudgedOnce : Type 0
-JudgedOnce = (d : Demand) (held : List ℕ) (w : Work) (c : Content) (first second : Verdict) (here there : List Chain) → IsJudged d held w c first here → IsJudged d held w c second there → (first ≡ second) × (here ≡ there)
+JudgedOnce = (d : Demand) (held : List ℕ) (w : Work) (c : Content) (first second : Verdict) (here there : List Chain)
+    → IsJudged d held w c first here → IsJudged d held w c second there → (first ≡ second) × (here ≡ there)

@@ -23,8 +23,10 @@ pub record LetsRun (v : Place) (skipped : List Place) (w : Place) (places : List
 -- the feature points and the chains but the chain number k let the run become the segment
 pub record IsOpen (chains : List Chain) (points : List Place) (k : ℕ) (v : Place) (skipped : List Place) (w : Place) : Type 0 where
   pub towns : All (IsConsistent v w skipped) points
-  pub others : (l : ℕ) → l < length chains → l ≢ k → 0 < length (chain_at chains l).rest → LetsRun v skipped w (chain_places (chain_at chains l))
+  pub others : (l : ℕ) → l < length chains → l ≢ k → 0 < length (chain_at chains l).rest
+      → LetsRun v skipped w (chain_places (chain_at chains l))
 
 -- the same for the run between the vertices number i and j of the chain number k
 abbrev pub IsOpenPair : List Chain → List Place → ℕ → ℕ → ℕ → Type 0
-IsOpenPair chains points k i j = IsOpen chains points k (place_at (chain_places (chain_at chains k)) i) (between (i + 1) j (chain_places (chain_at chains k))) (place_at (chain_places (chain_at chains k)) j)
+IsOpenPair chains points k i j = IsOpen chains points k (place_at (chain_places (chain_at chains k)) i)
+    (between (i + 1) j (chain_places (chain_at chains k))) (place_at (chain_places (chain_at chains k)) j)

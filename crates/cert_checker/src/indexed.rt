@@ -1,5 +1,5 @@
-//! Whether the rest of a map lets a run of a chain become the segment between its ends, by the items that stand near and the chains with
-//! an end there.
+//! Whether the rest of a map lets a run of a chain become the segment between its ends, by the
+//! items that stand near and the chains with an end there.
 ghost use Rattle.std.specs.Prelude.{◌≡◌, ◌≢◌, ◌<◌, ◌≤◌, ◌↔◌, All, IsTrue, length};
 ghost use Rattle.sweep_index.specs.Walk.{items_left};
 ghost use Rattle.arc_map.specs.Chains.{chain_at, IsClearIn};
@@ -14,8 +14,9 @@ use grid_exact::Point;
 use map_index::{IndexedMap, is_other};
 use sweep_index::Walk;
 
-// Whether the feature points and all chains but the chain number `k`, which is clear, let its run between the vertices number
-// `i` and `j` become the segment between the two. Only what stands in the box round the run is looked at.
+// Whether the feature points and all chains but the chain number `k`, which is clear, let its run
+// between the vertices number `i` and `j` become the segment between the two. Only what stands in
+// the box round the run is looked at.
 pub fn is_open(map: &IndexedMap, k: u32, i: usize, j: usize) -> bool
     requires chain { k < length map.now.chains }
     requires clear { IsClearIn map.now.chains map.now.read.points k }
@@ -60,7 +61,8 @@ fn is_edge(chain: &[Point], v: Point, w: Point) -> bool
 // Whether no item of the walk changes sides, but for vertices of the chain number `k`.
 fn items_let(mut walk: Walk<'_>, k: u32, first: Point, rest: &[Point]) -> bool
     requires { 0 < length rest.now }
-    ensures { IsTrue result ↔ All (ItemLets k first (run_inner rest.now) (run_end first rest.now)) (items_left walk.entry) }
+    ensures { IsTrue result ↔ All (ItemLets k first (run_inner rest.now) (run_end first rest.now))
+        (items_left walk.entry) }
 {
     while let Some((_, item)) = walk.next() {
         if is_other(item.owner, k) {

@@ -12,14 +12,16 @@ use crate::sides::is_consistent;
 use arc_map::WorkMap;
 use grid_exact::{Bound, Point, Weights, same_ends, within};
 
-/// Whether the pair of the vertices number `i` and `j` of chain number `k` is allowed: the edge between them may take the place
-/// of the run from one to the other. It is looked at all feature points and all other chains.
+/// Whether the pair of the vertices number `i` and `j` of chain number `k` is allowed: the edge
+/// between them may take the place of the run from one to the other. It is looked at all feature
+/// points and all other chains.
 pub fn allowed(work: &WorkMap, k: u32, i: u32, j: u32, bound: Bound, weights: Weights) -> bool
     requires chain { k < length work.now.chains }
     requires order { i < j }
     requires within { j ≤ length (chain_at work.now.chains k).rest }
     requires on_grid { All (StaysOnGrid weights) (chain_places (chain_at work.now.chains k)) }
-    ensures { IsTrue result ↔ IsAllowedPair (IsWithinBound weights.x weights.y bound) work.now.chains work.now.read.points k i j }
+    ensures { IsTrue result ↔ IsAllowedPair (IsWithinBound weights.x weights.y bound)
+        work.now.chains work.now.read.points k i j }
 {
     let chain = work.chain(k);
     let (from, to) = (i as usize, j as usize);
@@ -31,13 +33,15 @@ pub fn allowed(work: &WorkMap, k: u32, i: u32, j: u32, bound: Bound, weights: We
     is_near(first, rest, bound, weights) && is_open(work, k, first, rest)
 }
 
-// Whether the vertices between the ends of the run from the first place along the rest are within the bound of the segment
-// between its ends.
+// Whether the vertices between the ends of the run from the first place along the rest are within
+// the bound of the segment between its ends.
 fn is_near(first: Point, rest: &[Point], bound: Bound, weights: Weights) -> bool
     requires some { 0 < length rest.now }
     requires first_on_grid { StaysOnGrid weights first }
     requires on_grid { All (StaysOnGrid weights) rest.now }
-    ensures { IsTrue result ↔ All (IsWithinBound weights.x weights.y bound first (run_end first rest.now)) (run_inner rest.now) }
+    ensures { IsTrue result
+        ↔ All (IsWithinBound weights.x weights.y bound first (run_end first rest.now))
+        (run_inner rest.now) }
 {
     let last = rest.len() - 1;
     let from = weigh(weights, first);
@@ -58,10 +62,12 @@ pub fn weigh(weights: Weights, p: Point) -> Point
     weights.apply(p).unwrap()
 }
 
-// Whether the feature points and all chains but the chain number `k` let the run become the segment between its ends.
+// Whether the feature points and all chains but the chain number `k` let the run become the segment
+// between its ends.
 fn is_open(work: &WorkMap, k: u32, first: Point, rest: &[Point]) -> bool
     requires { 0 < length rest.now }
-    ensures { IsTrue result ↔ IsOpen work.now.chains work.now.read.points k first (run_inner rest.now) (run_end first rest.now) }
+    ensures { IsTrue result ↔ IsOpen work.now.chains work.now.read.points k first
+        (run_inner rest.now) (run_end first rest.now) }
 {
     towns_let(work, first, rest) && chains_let(work, k, first, rest)
 }
@@ -69,7 +75,8 @@ fn is_open(work: &WorkMap, k: u32, first: Point, rest: &[Point]) -> bool
 // Whether no feature point changes sides.
 fn towns_let(work: &WorkMap, first: Point, rest: &[Point]) -> bool
     requires { 0 < length rest.now }
-    ensures { IsTrue result ↔ All (IsConsistent first (run_end first rest.now) (run_inner rest.now)) work.now.read.points }
+    ensures { IsTrue result ↔ All (IsConsistent first (run_end first rest.now) (run_inner rest.now))
+        work.now.read.points }
 {
     for town in 0..work.point_count() {
         if !is_consistent(first, rest, work.point(town)) {
@@ -82,8 +89,10 @@ fn towns_let(work: &WorkMap, first: Point, rest: &[Point]) -> bool
 // Whether all chains but the chain number `k` let the run become the segment.
 fn chains_let(work: &WorkMap, k: u32, first: Point, rest: &[Point]) -> bool
     requires { 0 < length rest.now }
-    ensures { IsTrue result ↔ ((l : ℕ) → l < length work.now.chains → l ≢ k → 0 < length (chain_at work.now.chains l).rest
-        → LetsRun first (run_inner rest.now) (run_end first rest.now) (chain_places (chain_at work.now.chains l))) }
+    ensures { IsTrue result ↔ ((l : ℕ) → l < length work.now.chains → l ≢ k
+        → 0 < length (chain_at work.now.chains l).rest
+        → LetsRun first (run_inner rest.now) (run_end first rest.now)
+        (chain_places (chain_at work.now.chains l))) }
 {
     for other in 0..work.chain_count() {
         if other != k {

@@ -1,5 +1,7 @@
 //! The judge of certificates.
-ghost use Rattle.std.specs.Prelude.{◌≡◌, ◌<◌, ◌≤◌, ◌^◌, ◌+◌, ◌↔◌, ℕ, [], All, Contains, IfOk, IfNone, IfSome, IsNone, IsTrue, MatchOption, Some, drop, length, map, slice_get, unsigned_abs, vec_capacity};
+ghost use Rattle.std.specs.Prelude.{◌≡◌, ◌<◌, ◌≤◌, ◌^◌, ◌+◌, ◌↔◌, ℕ, [], All, Contains, IfOk};
+ghost use Rattle.std.specs.Prelude.{IfNone, IfSome, IsNone, IsTrue, MatchOption, Some, drop};
+ghost use Rattle.std.specs.Prelude.{length, map, slice_get, unsigned_abs, vec_capacity};
 ghost use Rattle.grid_exact.specs.Near.{weighted};
 ghost use Rattle.grid_exact.specs.Weights.{StaysOnGrid};
 ghost use Rattle.arc_map.specs.Arcs.{map_now};
@@ -10,7 +12,9 @@ ghost use Rattle.cert_format.specs.Content.{content_of};
 ghost use Rattle.map_index.specs.MapIndex.{IsAsRead};
 ghost use Rattle.monotone_split.specs.Laws.{OutcomeOf};
 ghost use Rattle.cert_checker.specs.Difference.{IsFirstDifference};
-ghost use Rattle.cert_checker.specs.Judged.{Agrees, AreJudged, IsAccepted, IsFault, IsJudged, IsMismatch, chain_spot, demand, free_chains, free_numbers, is_free, record_spot};
+ghost use Rattle.cert_checker.specs.Judged.{Agrees, AreJudged, IsAccepted, IsFault, IsJudged};
+ghost use Rattle.cert_checker.specs.Judged.{IsMismatch, chain_spot, demand, free_chains};
+ghost use Rattle.cert_checker.specs.Judged.{free_numbers, is_free, record_spot};
 ghost use Rattle.cert_checker.specs.Laws.{KeepsChains};
 ghost use Rattle.cert_checker.specs.Judging.{IsAfter, IsFresh, IsFreshFor, IsKnown, KeepsBase};
 ghost use Rattle.cert_checker.specs.Subject.{pairs_of, record_of};
@@ -29,8 +33,8 @@ use monotone_split::split;
 use std::alloc::{AllocError, Global};
 use std::marker::Model;
 
-/// A map with its held arcs, for which one certificate is judged. Contracts see the map at work, the held arcs, and the verdict, where
-/// one is given.
+/// A map with its held arcs, for which one certificate is judged. Contracts see the map at work,
+/// the held arcs, and the verdict, where one is given.
 #[derive(Drop)]
 pub struct JudgeState {
     map: IndexedMap,
@@ -51,7 +55,8 @@ impl Model for JudgeState {
 }
 
 impl JudgeState {
-    /// A fresh state for the map and its held arcs. It takes all memory of the judge. The only error is want of memory.
+    /// A fresh state for the map and its held arcs. It takes all memory of the judge. The only
+    /// error is want of memory.
     pub fn new(alloc: Global, partly: Partly) -> Result<JudgeState, NoMemory>
         ensures { IfOk result (IsFreshFor partly) }
     {
@@ -67,7 +72,8 @@ impl JudgeState {
         })
     }
 
-    /// The judged map: the chain of each entry of the certificate has just its kept vertices. The verdict was Yes.
+    /// The judged map: the chain of each entry of the certificate has just its kept vertices. The
+    /// verdict was Yes.
     pub fn finish(self) -> ArcMap
         requires { self.verdict ≡ Some Yes }
         ensures { result ≡ map_now self.work.read self.work.chains }
@@ -99,8 +105,8 @@ impl JudgeState {
         !self.held.has(place.arc)
     }
 
-    // The first of these that is not as demanded, or does not fit the map: the version, the bound, the weights, the held arcs, the
-    // chains.
+    // The first of these that is not as demanded, or does not fit the map: the version, the bound,
+    // the weights, the held arcs, the chains.
     fn mismatch(
         &self,
         cert: &Certificate,
@@ -110,8 +116,10 @@ impl JudgeState {
     ) -> Option<Reason>
         ensures known { IsKnown self.now.held self.now.work }
         ensures told { MatchOption result
-            (Agrees (demand version bound weights) self.now.held self.now.work.refs (content_of cert.now))
-            (λ reason. IsMismatch (demand version bound weights) self.now.held self.now.work.refs (content_of cert.now) (No reason)) }
+            (Agrees (demand version bound weights) self.now.held self.now.work.refs
+            (content_of cert.now))
+            (λ reason. IsMismatch (demand version bound weights) self.now.held self.now.work.refs
+            (content_of cert.now) (No reason)) }
     {
         let held = &self.held;
         if cert.version != version {
@@ -132,11 +140,14 @@ impl JudgeState {
         }
     }
 
-    // The place where the list of the chains that the records name first differs from that of the map's chains whose arcs are not held,
-    // or None where they are equal.
+    // The place where the list of the chains that the records name first differs from that of the
+    // map's chains whose arcs are not held, or None where they are equal.
     fn compare_chains(&self, records: &RunRecords) -> Option<u32>
-        ensures equal { IsNone result ↔ (map record_spot records.now.entries ≡ map chain_spot (free_chains self.now.held self.now.work.refs)) }
-        ensures first { IfSome result (IsFirstDifference (map record_spot records.now.entries) (map chain_spot (free_chains self.now.held self.now.work.refs))) }
+        ensures equal { IsNone result
+            ↔ (map record_spot records.now.entries
+            ≡ map chain_spot (free_chains self.now.held self.now.work.refs)) }
+        ensures first { IfSome result (IsFirstDifference (map record_spot records.now.entries)
+            (map chain_spot (free_chains self.now.held self.now.work.refs))) }
     {
         let mut entry = 0;
         for k in 0..self.chain_count() {
@@ -160,10 +171,14 @@ impl JudgeState {
 
     // The verdict on the entries, which are of the map's chains whose arcs are not held.
     fn judge_entries(&mut self, records: &RunRecords, bound: Bound, weights: Weights) -> Verdict
-        requires chains { map record_spot records.now.entries ≡ map chain_spot (free_chains self.old.held self.old.work.refs) }
+        requires chains { map record_spot records.now.entries
+            ≡ map chain_spot (free_chains self.old.held self.old.work.refs) }
         requires read { (k : ℕ) → k < length self.old.work.refs → IsAsRead self.old.work k }
         requires on_grid { All (All (StaysOnGrid weights)) self.old.work.read.arcs }
-        ensures judged { (version : ℕ) → AreJudged (demand version bound weights) self.old.work.read.points self.old.work.chains (free_numbers self.old.held self.old.work.refs) 0 records.now.entries result self.new.work.chains }
+        ensures judged { (version : ℕ)
+            → AreJudged (demand version bound weights) self.old.work.read.points
+            self.old.work.chains (free_numbers self.old.held self.old.work.refs) 0
+            records.now.entries result self.new.work.chains }
         ensures base { KeepsBase self.old self.new }
     {
         let mut entry = 0;
@@ -179,7 +194,8 @@ impl JudgeState {
         Verdict::Yes
     }
 
-    // Why the entry is refused for chain number `k`; None where it is accepted, and then the chain is thinned.
+    // Why the entry is refused for chain number `k`; None where it is accepted, and then the chain
+    // is thinned.
     fn judge_entry(
         &mut self,
         entry: u32,
@@ -194,9 +210,12 @@ impl JudgeState {
         requires read { IsAsRead self.old.work k }
         requires on_grid { All (All (StaysOnGrid weights)) self.old.work.read.arcs }
         ensures told { MatchOption result
-            (IsAccepted (pairs_of self.old.work k weights bound) (chain_at self.old.work.chains k) (record_of said.now))
-            (λ reason. IsFault (pairs_of self.old.work k weights bound) (chain_at self.old.work.chains k) entry (record_of said.now) (No reason)) }
-        ensures thinned { IfNone result (self.new ≡ record self.old { work = thinned_work self.old.work k said.now.kept.now }) }
+            (IsAccepted (pairs_of self.old.work k weights bound) (chain_at self.old.work.chains k)
+            (record_of said.now))
+            (λ reason. IsFault (pairs_of self.old.work k weights bound)
+            (chain_at self.old.work.chains k) entry (record_of said.now) (No reason)) }
+        ensures thinned { IfNone result (self.new
+            ≡ record self.old { work = thinned_work self.old.work k said.now.kept.now }) }
         ensures same { IfSome result (λ _. self.new ≡ self.old) }
     {
         weigh_all(&mut self.weighted, self.map.chain(k), weights);
@@ -216,9 +235,9 @@ impl JudgeState {
     }
 }
 
-/// The verdict on the certificate for the map of the state, where this version, this bound and these weights are demanded: Yes, or the
-/// first reason against it. After Yes the map of the state is the judged map: the chain of each entry has just its kept vertices. No
-/// memory is taken.
+/// The verdict on the certificate for the map of the state, where this version, this bound and
+/// these weights are demanded: Yes, or the first reason against it. After Yes the map of the state
+/// is the judged map: the chain of each entry has just its kept vertices. No memory is taken.
 pub fn judge(
     state: &mut JudgeState,
     cert: &Certificate,
@@ -228,10 +247,14 @@ pub fn judge(
 ) -> Verdict
     requires fresh { IsFresh state.old }
     requires on_grid { All (All (StaysOnGrid weights)) state.old.work.read.arcs }
-    ensures judged { IsJudged (demand version bound weights) state.old.held state.old.work (content_of cert.now) result state.new.work.chains }
+    ensures judged { IsJudged (demand version bound weights) state.old.held state.old.work
+        (content_of cert.now) result state.new.work.chains }
     ensures after { IsAfter result state.old state.new }
-    ensures sound { result ≡ Yes → OutcomeOf state.old.held state.old.work.read state.new.work.chains }
-    ensures chains { result ≡ Yes → KeepsChains (demand version bound weights) state.old.held state.old.work.chains state.new.work.chains }
+    ensures sound { result ≡ Yes
+        → OutcomeOf state.old.held state.old.work.read state.new.work.chains }
+    ensures chains { result ≡ Yes
+        → KeepsChains (demand version bound weights) state.old.held state.old.work.chains
+        state.new.work.chains }
 {
     let verdict = verdict_on(state, cert, version, bound, weights);
     state.verdict = Some(verdict);
@@ -248,7 +271,8 @@ fn verdict_on(
 ) -> Verdict
     requires fresh { IsFresh state.old }
     requires on_grid { All (All (StaysOnGrid weights)) state.old.work.read.arcs }
-    ensures judged { IsJudged (demand version bound weights) state.old.held state.old.work (content_of cert.now) result state.new.work.chains }
+    ensures judged { IsJudged (demand version bound weights) state.old.held state.old.work
+        (content_of cert.now) result state.new.work.chains }
     ensures base { KeepsBase state.old state.new }
     ensures known { IsKnown state.old.held state.old.work }
 {
@@ -267,7 +291,8 @@ fn is_bound(given: Bound, wanted: Bound) -> bool
 
 // Whether the weights are the same on both axes.
 fn are_weights(given: Weights, wanted: Weights) -> bool
-    ensures { IsTrue result ↔ ((unsigned_abs given.x ≡ unsigned_abs wanted.x) × (unsigned_abs given.y ≡ unsigned_abs wanted.y)) }
+    ensures { IsTrue result ↔ ((unsigned_abs given.x ≡ unsigned_abs wanted.x)
+        × (unsigned_abs given.y ≡ unsigned_abs wanted.y)) }
 {
     if given.x() != wanted.x() {
         return false;
@@ -293,8 +318,8 @@ fn copied(alloc: Global, list: &ArcList) -> Result<ArcList, AllocError>
     Ok(ArcList::new(arcs))
 }
 
-// Puts the points with their coordinates times the weights in the place of those that were there. There must be room: no memory is
-// taken.
+// Puts the points with their coordinates times the weights in the place of those that were there.
+// There must be room: no memory is taken.
 fn weigh_all(weighed: &mut Vec<Point>, points: &[Point], weights: Weights)
     requires on_grid { All (StaysOnGrid weights) points.now }
     requires room { length points.now ≤ vec_capacity weighed.old }

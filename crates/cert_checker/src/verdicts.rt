@@ -19,10 +19,11 @@ pub enum Reason {
     Kept(u32),
     /// In this entry the step between these vertices is not allowed, and it is the first such step.
     Path(u32, u32, u32),
-    /// The layers of this entry are not one for each vertex, or do not lead from the number of steps to 0.
+    /// The layers of this entry are not one for each vertex, or do not lead from the number of
+    /// steps to 0.
     Ends(u32),
-    /// In this entry the pair of these vertices is allowed, though the layers fall by more than 1 over it, and it is the first
-    /// such pair.
+    /// In this entry the pair of these vertices is allowed, though the layers fall by more than 1
+    /// over it, and it is the first such pair.
     Layers(u32, u32, u32),
     /// The text that was put out first differs here from that of the judged map.
     Text(u32),

@@ -1,5 +1,6 @@
 -- The first place of a byte in a text.
-use Rattle.std.proofs.Common.{◌≡◌, ◌≢◌, ◌<◌, ◌≤◌, ◌==◌, ℕ, zero, suc, true, not, List, [], ◌∷◌, ◌++◌, length, take, drop, slice_index, slice_get, take_all, Some, ◌-◌, refl, sym, ap, ◌∙◌, arith}
+use Rattle.std.proofs.Common.{◌≡◌, ◌≢◌, ◌<◌, ◌≤◌, ◌==◌, ℕ, zero, suc, true, not, List, [], ◌∷◌, ◌++◌, length, take, drop, slice_index}
+use Rattle.std.proofs.Common.{slice_get, take_all, Some, ◌-◌, refl, sym, ap, ◌∙◌, arith}
 use Rattle.std.proofs.lemmas.Bool.{and_parts, eq-eqb, ne_eqb, cond-true, cond-false, true≢false}
 use Rattle.json.proofs.Found.{Some_inj}
 use Rattle.cert_format.specs.Parts.{lacks, behind_comma}
@@ -19,7 +20,8 @@ pub first_place : (byte : ℕ) (text front rest : List ℕ) (k : ℕ) → lacks 
     → ((j : ℕ) → j < k → slice_index text j ≢ byte) → slice_index text k ≡ byte → k ≡ length front
 first_place byte text front rest k none is before at =
     let low : ¬ (k < length front) = λ less. other_at byte front (byte ∷ rest) none k less (ap (λ t. slice_index t k) (sym is) ∙ at) in
-    let high : ¬ (length front < k) = λ less. before (length front) less (ap (λ t. slice_index t (length front)) is ∙ there byte front rest) in
+    let high : ¬ (length front < k) = λ less. before (length front) less (ap (λ t. slice_index t (length front)) is ∙ there byte front rest)
+    in
     omega arith
 
 pub within_text : (byte : ℕ) (text front rest : List ℕ) (k : ℕ) → text ≡ front ++ byte ∷ rest

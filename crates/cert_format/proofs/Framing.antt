@@ -1,5 +1,6 @@
 -- The text of a certificate round its records, which bytes its parts lack, and how often a part has a byte.
-use Rattle.std.proofs.Common.{◌≡◌, ◌≢◌, ◌+◌, ◌<◌, ◌≤◌, ◌^◌, ◌==◌, ℕ, true, false, not, cond, List, [], ◌∷◌, ◌++◌, map, length, All, refl, sym, ap, ap₂, ◌∙◌, arith, append_assoc, codes, decimal}
+use Rattle.std.proofs.Common.{◌≡◌, ◌≢◌, ◌+◌, ◌<◌, ◌≤◌, ◌^◌, ◌==◌, ℕ, true, false, not, cond, List, [], ◌∷◌, ◌++◌, map, length, All, refl}
+use Rattle.std.proofs.Common.{sym, ap, ap₂, ◌∙◌, arith, append_assoc, codes, decimal}
 use Rattle.std.proofs.lemmas.Bool.{and_from, ne_eqb}
 use Rattle.std.proofs.lemmas.Fmt.{decimal_is_IsNumeral}
 use Rattle.std.proofs.lemmas.List.Elements.{All-head, All-tail}
@@ -8,7 +9,8 @@ use Rattle.std.proofs.lemmas.List.Sums.{sum_by-append, sum_by-cons}
 use Rattle.std.proofs.lemmas.Str.Parse.{digit_from_value}
 use Rattle.std.specs.Str.Parse.{AllDigits}
 use Rattle.arc_map.specs.Records.{Record}
-use Rattle.cert_format.specs.Certificate.{Content, IsRecord, IsSmall, further, listed, numbers_text, record_text, held_text, weights_text, certificate_text}
+use Rattle.cert_format.specs.Certificate.{Content, IsRecord, IsSmall, further, listed, numbers_text, record_text, held_text, weights_text}
+use Rattle.cert_format.specs.Certificate.{certificate_text}
 use Rattle.cert_format.specs.Parts.{joined, bare, lacks, count}
 
 -- ---- the text round the records
@@ -17,7 +19,8 @@ abbrev pub front_text : Content → List ℕ
 front_text c = codes "{\"bound\":" ++ decimal c.bound ++ codes ",\"chains\":"
 
 abbrev pub back_text : Content → List ℕ
-back_text c = held_text c.version c.held ++ (codes ",\"version\":" ++ (decimal c.version ++ (weights_text c.version c.wx c.wy ++ codes "}")))
+back_text c = held_text c.version c.held ++ (codes ",\"version\":"
+    ++ (decimal c.version ++ (weights_text c.version c.wx c.wy ++ codes "}")))
 
 seven : (a b c d e f g : List ℕ) → (((((a ++ b) ++ c) ++ d) ++ e) ++ f) ++ g ≡ a ++ (b ++ (c ++ (d ++ (e ++ (f ++ g)))))
 seven a b c d e f g = simp append_assoc
@@ -29,7 +32,8 @@ listed_joined (t ∷ ts) = ap (λ l. 91 ∷ l) (sym (append_assoc t (further ts)
 pub opened : (c : Content) → certificate_text c ≡ front_text c ++ (91 ∷ (joined (map record_text c.entries) ++ (93 ∷ back_text c)))
 opened c =
     let ts = map record_text c.entries in
-    seven (front_text c) (listed ts) (held_text c.version c.held) (codes ",\"version\":") (decimal c.version) (weights_text c.version c.wx c.wy) (codes "}")
+    seven (front_text c) (listed ts) (held_text c.version c.held) (codes ",\"version\":") (decimal c.version)
+    (weights_text c.version c.wx c.wy) (codes "}")
     ∙ ap (λ l. front_text c ++ (l ++ back_text c)) (listed_joined ts)
     ∙ ap (λ l. front_text c ++ (91 ∷ l)) (append_assoc (joined ts) (93 ∷ []) (back_text c))
 
@@ -78,14 +82,18 @@ pub further_lack : (byte : ℕ) → IsMark byte → (ns : List ℕ) → All IsSm
 further_lack byte mark [] all = refl
 further_lack byte mark (n ∷ ns) all =
     let small = All-head IsSmall n ns all in
-    lacks_both byte (44 ∷ decimal n) (further (map decimal ns)) (one_lacks byte 44 (decimal n) mark.comma (decimal_lacks byte mark.digit n (omega arith))) (further_lack byte mark ns (All-tail IsSmall n ns all))
+    lacks_both byte (44 ∷ decimal n) (further (map decimal ns))
+    (one_lacks byte 44 (decimal n) mark.comma (decimal_lacks byte mark.digit n (omega arith)))
+    (further_lack byte mark ns (All-tail IsSmall n ns all))
 
 pub numbers_lack : (byte : ℕ) → IsMark byte → (ns : List ℕ) → All IsSmall ns → lacks byte (numbers_text ns) ≡ true
 numbers_lack byte mark [] all = one_lacks byte 91 (93 ∷ []) mark.opening (one_lacks byte 93 [] mark.closing refl)
 numbers_lack byte mark (n ∷ ns) all =
     let small = All-head IsSmall n ns all in
-    lacks_both byte (91 ∷ decimal n) (further (map decimal ns) ++ 93 ∷ []) (one_lacks byte 91 (decimal n) mark.opening (decimal_lacks byte mark.digit n (omega arith)))
-    (lacks_both byte (further (map decimal ns)) (93 ∷ []) (further_lack byte mark ns (All-tail IsSmall n ns all)) (one_lacks byte 93 [] mark.closing refl))
+    lacks_both byte (91 ∷ decimal n) (further (map decimal ns) ++ 93 ∷ [])
+    (one_lacks byte 91 (decimal n) mark.opening (decimal_lacks byte mark.digit n (omega arith)))
+    (lacks_both byte (further (map decimal ns)) (93 ∷ []) (further_lack byte mark ns (All-tail IsSmall n ns all))
+    (one_lacks byte 93 [] mark.closing refl))
 
 -- the text of a record up to its closing brace
 abbrev pub record_body : Record → List ℕ
@@ -96,7 +104,8 @@ brace : IsMark 125
 brace = record { digit = λ d low high. omega arith; comma = refl; opening = refl; closing = refl }
 
 eight_lack : (byte : ℕ) (a b c d e f g h : List ℕ) → lacks byte a ≡ true → lacks byte b ≡ true → lacks byte c ≡ true → lacks byte d ≡ true
-    → lacks byte e ≡ true → lacks byte f ≡ true → lacks byte g ≡ true → lacks byte h ≡ true → lacks byte (((((((a ++ b) ++ c) ++ d) ++ e) ++ f) ++ g) ++ h) ≡ true
+    → lacks byte e ≡ true → lacks byte f ≡ true → lacks byte g ≡ true → lacks byte h ≡ true
+    → lacks byte (((((((a ++ b) ++ c) ++ d) ++ e) ++ f) ++ g) ++ h) ≡ true
 eight_lack byte a b c d e f g h la lb lc ld le lf lg lh =
     lacks_both byte ((((((a ++ b) ++ c) ++ d) ++ e) ++ f) ++ g) h
     (lacks_both byte (((((a ++ b) ++ c) ++ d) ++ e) ++ f) g
@@ -109,7 +118,8 @@ pub body_lacks : (r : Record) → IsRecord r → lacks 125 (record_body r) ≡ t
 body_lacks r fits =
     let a = fits.arc in
     let f = fits.«from» in
-    eight_lack 125 (codes "{\"arc\":") (decimal r.arc) (codes ",\"from\":") (decimal r.«from») (codes ",\"kept\":") (numbers_text r.kept) (codes ",\"layers\":") (numbers_text r.layers)
+    eight_lack 125 (codes "{\"arc\":") (decimal r.arc) (codes ",\"from\":") (decimal r.«from») (codes ",\"kept\":") (numbers_text r.kept)
+    (codes ",\"layers\":") (numbers_text r.layers)
     refl (decimal_lacks 125 brace.digit r.arc (omega arith)) refl (decimal_lacks 125 brace.digit r.«from» (omega arith))
     refl (numbers_lack 125 brace r.kept fits.kept) refl (numbers_lack 125 brace r.layers fits.layers)
 

@@ -1,10 +1,12 @@
 -- How many objects and lists the text of a record opens, and that of a certificate without its records.
-use Rattle.std.proofs.Common.{◌≡◌, ◌+◌, ◌<◌, ◌≤◌, ◌^◌, ◌==◌, ◌≢◌, ℕ, Bool, true, false, nat_le, cond, if◌then◌else◌, List, [], ◌∷◌, ◌++◌, map, All, refl, ap, arith, codes, decimal}
+use Rattle.std.proofs.Common.{◌≡◌, ◌+◌, ◌<◌, ◌≤◌, ◌^◌, ◌==◌, ◌≢◌, ℕ, Bool, true, false, nat_le, cond, if◌then◌else◌, List, [], ◌∷◌, ◌++◌}
+use Rattle.std.proofs.Common.{map, All, refl, ap, arith, codes, decimal}
 use Rattle.std.proofs.lemmas.Bool.{and_parts, not-true}
 use Rattle.std.proofs.lemmas.List.Elements.{All-head, All-tail}
 use Rattle.std.proofs.lemmas.List.Sums.{sum_by-cons}
 use Rattle.arc_map.specs.Records.{Record}
-use Rattle.cert_format.specs.Certificate.{Content, IsCertificate, IsRecord, IsSmall, further, numbers_text, record_text, held_text, weights_text, certificate_text}
+use Rattle.cert_format.specs.Certificate.{Content, IsCertificate, IsRecord, IsSmall, further, numbers_text, record_text, held_text}
+use Rattle.cert_format.specs.Certificate.{weights_text, certificate_text}
 use Rattle.cert_format.specs.Parts.{IsTextOf, bare, lacks, count}
 use Rattle.cert_format.specs.Values.{record_data, data_of}
 use Rattle.cert_format.proofs.Bare.{bare_fits}
@@ -20,7 +22,8 @@ count_none byte [] none = refl
 count_none byte (b ∷ bs) none =
     let other : (b == byte) ≡ false = not-true (b == byte) (and_parts _ _ none).0 in
     let rest = count_none byte bs (and_parts _ _ none).1 in
-    no_more (count byte (b ∷ bs)) (cond (b == byte) 1 0) (count byte bs) (sum_by-cons (λ x. cond (x == byte) 1 0) b bs) (ap (λ t. cond t 1 0) other) rest
+    no_more (count byte (b ∷ bs)) (cond (b == byte) 1 0) (count byte bs) (sum_by-cons (λ x. cond (x == byte) 1 0) b bs)
+    (ap (λ t. cond t 1 0) other) rest
 
 decimal_none : (byte : ℕ) → ((d : ℕ) → 48 ≤ d → d ≤ 57 → d ≢ byte) → (n : ℕ) → n < 2 ^ 64 → count byte (decimal n) ≡ 0
 decimal_none byte other n h = count_none byte (decimal n) (decimal_lacks byte other n h)
@@ -64,9 +67,11 @@ nine byte a b c d e f g h i =
     omega arith
 
 record_parts : (byte : ℕ) (r : Record) → count byte (record_text r)
-    ≡ count byte (codes "{\"arc\":") + count byte (decimal r.arc) + count byte (codes ",\"from\":") + count byte (decimal r.«from») + count byte (codes ",\"kept\":")
+    ≡ count byte (codes "{\"arc\":") + count byte (decimal r.arc) + count byte (codes ",\"from\":") + count byte (decimal r.«from») + count
+    byte (codes ",\"kept\":")
     + count byte (numbers_text r.kept) + count byte (codes ",\"layers\":") + count byte (numbers_text r.layers) + count byte (codes "}")
-record_parts byte r = nine byte (codes "{\"arc\":") (decimal r.arc) (codes ",\"from\":") (decimal r.«from») (codes ",\"kept\":") (numbers_text r.kept) (codes ",\"layers\":") (numbers_text r.layers) (codes "}")
+record_parts byte r = nine byte (codes "{\"arc\":") (decimal r.arc) (codes ",\"from\":") (decimal r.«from») (codes ",\"kept\":")
+    (numbers_text r.kept) (codes ",\"layers\":") (numbers_text r.layers) (codes "}")
 
 pub record_is_text : (r : Record) → IsRecord r → IsTextOf 2 (record_data r) (record_text r)
 record_is_text r fits =
@@ -129,9 +134,18 @@ bare_is_text c fits =
     let s' : count 91 (codes "[]") ≡ 1 = refl in
     let t' : count 91 (codes ",\"version\":") ≡ 0 = refl in
     let u' : count 91 (codes "}") ≡ 0 = refl in
-    record { utf8 = certificate_utf8 (bare c) (bare_fits c fits); reads = certificate_reads (bare c) (bare_fits c fits); objects = omega arith; lists = omega arith }
+    record {
+      utf8 = certificate_utf8 (bare c) (bare_fits c fits);
+      reads = certificate_reads (bare c) (bare_fits c fits);
+      objects =
+          omega arith;
+      lists = omega arith;
+    }
   where
     bare_parts : (byte : ℕ) (c : Content) → count byte (certificate_text (bare c))
-        ≡ count byte (codes "{\"bound\":") + count byte (decimal c.bound) + count byte (codes ",\"chains\":") + count byte (codes "[]") + count byte (held_text c.version c.held)
-        + count byte (codes ",\"version\":") + count byte (decimal c.version) + count byte (weights_text c.version c.wx c.wy) + count byte (codes "}")
-    bare_parts byte c = nine byte (codes "{\"bound\":") (decimal c.bound) (codes ",\"chains\":") (codes "[]") (held_text c.version c.held) (codes ",\"version\":") (decimal c.version) (weights_text c.version c.wx c.wy) (codes "}")
+        ≡ count byte (codes "{\"bound\":") + count byte (decimal c.bound) + count byte (codes ",\"chains\":") + count byte (codes "[]")
+        + count byte (held_text c.version c.held)
+        + count byte (codes ",\"version\":") + count byte (decimal c.version) + count byte (weights_text c.version c.wx c.wy) + count byte
+        (codes "}")
+    bare_parts byte c = nine byte (codes "{\"bound\":") (decimal c.bound) (codes ",\"chains\":") (codes "[]") (held_text c.version c.held)
+        (codes ",\"version\":") (decimal c.version) (weights_text c.version c.wx c.wy) (codes "}")

@@ -1,5 +1,6 @@
 -- Records that are read one after the other from a text.
-use Rattle.std.proofs.Common.{◌≡◌, ◌+◌, ◌≤◌, ◌^◌, ◌==◌, ℕ, true≢false, min, List, [], ◌∷◌, ◌++◌, map, drop, length, All, Some, slice_get, refl, sym, ap, ◌∙◌, subst, arith, append_assoc, append-nil}
+use Rattle.std.proofs.Common.{◌≡◌, ◌+◌, ◌≤◌, ◌^◌, ◌==◌, ℕ, true≢false, min, List, [], ◌∷◌, ◌++◌, map, drop, length, All, Some, slice_get}
+use Rattle.std.proofs.Common.{refl, sym, ap, ◌∙◌, subst, arith, append_assoc, append-nil}
 use Rattle.std.proofs.lemmas.List.Elements.{All-head, All-tail}
 use Rattle.json.proofs.Found.{Some_inj}
 use Rattle.arc_map.specs.Records.{Record, Records, Fits, pushed}
@@ -74,13 +75,23 @@ counted (r ∷ rs) rest =
 
 pub starts : (text : List ℕ) (now : Records) (rs : List Record) (rest : List ℕ) → length rs ≤ 2 ^ 20 → All IsRecord rs
     → text ≡ joined (map record_text rs) ++ 93 ∷ rest
-    → now.entries ≡ [] → now.room ≡ min (count 123 text) (2 ^ 20) → now.kept_room ≡ count 44 text → now.layers_room ≡ count 44 text → AreLeft text now rs rest
+    → now.entries ≡ [] → now.room ≡ min (count 123 text) (2 ^ 20) → now.kept_room ≡ count 44 text → now.layers_room ≡ count 44 text
+    → AreLeft text now rs rest
 starts text now rs rest few fit is none r k l =
     let enough : Counted text rs = subst (λ t. Counted t rs) (sym is) (counted rs (93 ∷ rest)) in
     let room = enough.room in
     let kept = enough.kept in
     let layers = enough.layers in
-    record { more = rs; is = is; fit = fit; all = ap (λ (es : List Record). es ++ rs) none; room = omega arith; kept = omega arith; layers = omega arith }
+    record {
+      more = rs;
+      is = is;
+      fit = fit;
+      all = ap (λ (es : List Record). es ++ rs) none;
+      room = omega arith;
+      kept = omega arith;
+      layers =
+          omega arith;
+    }
 
 pub same_left : (left other : List ℕ) (now then : Records) (rs : List Record) (rest : List ℕ) → other ≡ left → then ≡ now
     → AreLeft left now rs rest → AreLeft other then rs rest
@@ -108,7 +119,8 @@ next left now rs rest begins l = at l.more l.is l.fit l.all l.room l.kept l.laye
   where
     at : (more : List Record) → left ≡ joined (map record_text more) ++ 93 ∷ rest → All IsRecord more → now.entries ++ more ≡ rs
         → length more ≤ now.room → kept_sum more ≤ now.kept_room → layers_sum more ≤ now.layers_room → Next left now rs rest
-    at [] is fit all room kept layers = let e : 93 ≡ 123 = Some_inj 93 123 (sym (ap (λ t. slice_get t 0) is) ∙ begins) in absurd (true≢false (ap (λ n. n == 93) e))
+    at [] is fit all room kept layers = let e : 93 ≡ 123 = Some_inj 93 123 (sym (ap (λ t. slice_get t 0) is) ∙ begins) in
+        absurd (true≢false (ap (λ n. n == 93) e))
     at (r ∷ more) is fit all room kept layers = record {
       item = r;
       fits = All-head IsRecord r more fit;

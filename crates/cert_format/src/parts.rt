@@ -1,5 +1,6 @@
 //! Cuts a text at single bytes, and counts them.
-ghost use Rattle.std.specs.Prelude.{◌≡◌, ◌≤◌, ◌<◌, ◌+◌, ◌++◌, ◌∷◌, [], ℕ, List, IsTrue, ◌↔◌, Some, true, length, slice_get};
+ghost use Rattle.std.specs.Prelude.{◌≡◌, ◌≤◌, ◌<◌, ◌+◌, ◌++◌, ◌∷◌, [], ℕ, List, IsTrue, ◌↔◌, Some};
+ghost use Rattle.std.specs.Prelude.{true, length, slice_get};
 ghost use Rattle.cert_format.specs.Parts.{behind_comma, count, lacks};
 
 /// How often the byte stands in the text.

@@ -14,7 +14,8 @@ to_high : (u a b z r : ℤ) → a ≤ℤ (u +ℤ pos 0) → b ≤ℤ (u +ℤ pos
 to_high u a b z r h k (inl e) = omega (arith, sums)
 to_high u a b z r h k (inr e) = omega (arith, sums)
 
-held_near : (r s : ℤ) (box : Box) (p a b : Place) → IsHeldBy (pos 0) (pos 0) box a → IsHeldBy (pos 0) (pos 0) box b → IsInGrownBox r s p a b → IsHeldBy r s box p
+held_near : (r s : ℤ) (box : Box) (p a b : Place) → IsHeldBy (pos 0) (pos 0) box a → IsHeldBy (pos 0) (pos 0) box b → IsInGrownBox r s p a b
+    → IsHeldBy r s box p
 held_near r s box p a b h k near =
     record {
       left = from_low box.low.x a.x b.x p.x r h.left k.left near.left;

@@ -1,6 +1,8 @@
 -- What is in reach of a walk is near an edge with a number, and in the grown box round the walk.
 use mir.Val.{SFits}
-use Rattle.std.proofs.Common.{Option, Some, IfSome, w64, to_z, of_z, ◌≡◌, ◌⊎◌, inl, inr, ℕ, suc, ◌+◌, ◌-◌, ◌*◌, ◌<◌, ◌≤◌, ◌↔◌, Bool, true, IsTrue, List, [], ◌∷◌, length, get_or, take, drop, ℤ, pos, ◌+ℤ◌, ◌*ℤ◌, ◌≤ℤ◌, ◌<ℤ◌, refl, sym, ap, ◌∙◌, subst, arith}
+use Rattle.std.proofs.Common.{Option, Some, IfSome, w64, to_z, of_z, ◌≡◌, ◌⊎◌, inl, inr, ℕ, suc, ◌+◌, ◌-◌, ◌*◌, ◌<◌, ◌≤◌, ◌↔◌, Bool, true}
+use Rattle.std.proofs.Common.{IsTrue, List, [], ◌∷◌, length, get_or, take, drop, ℤ, pos, ◌+ℤ◌, ◌*ℤ◌, ◌≤ℤ◌, ◌<ℤ◌, refl, sym, ap, ◌∙◌, subst}
+use Rattle.std.proofs.Common.{arith}
 use Rattle.std.specs.Prelude.{All, false}
 use Rattle.std.proofs.lemmas.Bool.{false≢true, cases_lt}
 use Rattle.std.proofs.lemmas.Int.{ints, to_z-of_z}
@@ -69,13 +71,15 @@ near_some_edge wx wy e steps p v ws one_x one_y across up reach =
     record {
       edge = k.number;
       within = k.within;
-      near = subst (λ (a : Place). IsInGrownBox (pos steps.across) (pos steps.up) p a (vertex_at (v ∷ ws) (k.number + 1))) (sym k.start) end;
+      near = subst (λ (a : Place). IsInGrownBox (pos steps.across) (pos steps.up) p a (vertex_at (v ∷ ws) (k.number + 1))) (sym k.start)
+          end;
     }
 
 -- ---- the edge that is looked at, by the place of its end
 
 pub near_here : (steps : Steps) (walk : List Place) (p a b : Place) (end edge : ℕ) → edge + 1 ≡ end → end < length walk
-    → a ≡ get_or walk (end - 1) a → b ≡ get_or walk end b → IsInGrownBox (pos steps.across) (pos steps.up) p a b ↔ IsNearEdge steps walk p edge
+    → a ≡ get_or walk (end - 1) a → b ≡ get_or walk end b → IsInGrownBox (pos steps.across) (pos steps.up) p a b
+    ↔ IsNearEdge steps walk p edge
 near_here steps walk p a b end edge next within first second =
     let before : end - 1 ≡ edge = omega arith in
     let e : a ≡ vertex_at walk edge = get_or_read walk (end - 1) a (omega arith) first _ ∙ ap (vertex_at walk) before in
@@ -138,27 +142,34 @@ near_within steps low high p walk all h =
 
 -- ---- a part of a walk
 
-part_vertex : (walk : List Place) (start end t : ℕ) → start + t ≤ end → vertex_at (take (end + 1 - start) (drop start walk)) t ≡ vertex_at walk (start + t)
+part_vertex : (walk : List Place) (start end t : ℕ) → start + t ≤ end
+    → vertex_at (take (end + 1 - start) (drop start walk)) t ≡ vertex_at walk (start + t)
 part_vertex walk start end t within =
-    get_or-take (end + 1 - start) (drop start walk) t (record { x = pos 0; y = pos 0 }) (omega arith) ∙ get_or-drop start walk t (record { x = pos 0; y = pos 0 })
+    get_or-take (end + 1 - start) (drop start walk) t (record { x = pos 0; y = pos 0 }) (omega arith)
+    ∙ get_or-drop start walk t (record { x = pos 0; y = pos 0 })
 
-pub length-part : (walk : List Place) (start end : ℕ) → end < length walk → length (take (end + 1 - start) (drop start walk)) ≡ end + 1 - start
+pub length-part : (walk : List Place) (start end : ℕ) → end < length walk
+    → length (take (end + 1 - start) (drop start walk)) ≡ end + 1 - start
 length-part walk start end within = length-take-le (end + 1 - start) (drop start walk) (omega (arith, length-drop start walk))
 
 -- what is near an edge of the part is near an edge with a number there
-pub near_in_part : (steps : Steps) (walk : List Place) (p : Place) (start end edge : ℕ) → end < length walk → start ≤ edge → edge < end → IsNearEdge steps walk p edge → IsNearSomeEdge steps (take (end + 1 - start) (drop start walk)) p
+pub near_in_part : (steps : Steps) (walk : List Place) (p : Place) (start end edge : ℕ) → end < length walk → start ≤ edge → edge < end
+    → IsNearEdge steps walk p edge → IsNearSomeEdge steps (take (end + 1 - start) (drop start walk)) p
 near_in_part steps walk p start end edge within low high near =
     let part = take (end + 1 - start) (drop start walk) in
     let size = length-part walk start end within in
     let here : start + (edge - start) ≡ edge = omega arith in
     let next : start + (edge - start + 1) ≡ edge + 1 = omega arith in
-    let first : vertex_at (take (end + 1 - start) (drop start walk)) (edge - start) ≡ vertex_at walk edge = part_vertex walk start end (edge - start) (omega arith) ∙ ap (vertex_at walk) here in
-    let second : vertex_at (take (end + 1 - start) (drop start walk)) (edge - start + 1) ≡ vertex_at walk (edge + 1) = part_vertex walk start end (edge - start + 1) (omega arith) ∙ ap (vertex_at walk) next in
+    let first : vertex_at (take (end + 1 - start) (drop start walk)) (edge - start) ≡ vertex_at walk edge =
+    part_vertex walk start end (edge - start) (omega arith) ∙ ap (vertex_at walk) here in
+    let second : vertex_at (take (end + 1 - start) (drop start walk)) (edge - start + 1) ≡ vertex_at walk (edge + 1) =
+    part_vertex walk start end (edge - start + 1) (omega arith) ∙ ap (vertex_at walk) next in
     let Box : Place → Place → Type 0 = λ a b. IsInGrownBox (pos steps.across) (pos steps.up) p a b in
     record {
       edge = edge - start;
       within = omega (arith, size);
-      near = subst (λ (a : Place). Box a (vertex_at (take (end + 1 - start) (drop start walk)) (edge - start + 1))) (sym first) (subst (λ (b : Place). Box (vertex_at walk edge) b) (sym second) near);
+      near = subst (λ (a : Place). Box a (vertex_at (take (end + 1 - start) (drop start walk)) (edge - start + 1))) (sym first)
+          (subst (λ (b : Place). Box (vertex_at walk edge) b) (sym second) near);
     }
 
 -- ---- corners as they are made
@@ -167,9 +178,12 @@ grid_fits : (z : ℤ) → IsGridNumber z → SFits w64 z
 grid_fits z h = let low = h.low in let high = h.high in omega (arith, fits)
 
 -- the point that was made of these two numbers
-pub point_made : (o : Option Place) (p : Place) (x y : ℤ) → o ≡ Some p → IfSome o (λ q. q ≡ record { x = to_z w64 (of_z w64 x); y = to_z w64 (of_z w64 y) }) → IsGridNumber x → IsGridNumber y → (p.x ≡ x) × (p.y ≡ y)
+pub point_made : (o : Option Place) (p : Place) (x y : ℤ) → o ≡ Some p
+    → IfSome o (λ q. q ≡ record { x = to_z w64 (of_z w64 x); y = to_z w64 (of_z w64 y) }) → IsGridNumber x → IsGridNumber y
+    → (p.x ≡ x) × (p.y ≡ y)
 point_made o p x y some made gx gy =
-    let e : p ≡ record { x = to_z w64 (of_z w64 x); y = to_z w64 (of_z w64 y) } = subst (λ (u : Option Place). IfSome u (λ q. q ≡ record { x = to_z w64 (of_z w64 x); y = to_z w64 (of_z w64 y) })) some made in
+    let e : p ≡ record { x = to_z w64 (of_z w64 x); y = to_z w64 (of_z w64 y) } =
+    subst (λ (u : Option Place). IfSome u (λ q. q ≡ record { x = to_z w64 (of_z w64 x); y = to_z w64 (of_z w64 y) })) some made in
     (ap (λ (q : Place). q.x) e ∙ to_z-of_z w64 x (grid_fits x gx), ap (λ (q : Place). q.y) e ∙ to_z-of_z w64 y (grid_fits y gy))
 
 -- ---- boxes that grow
@@ -180,6 +194,7 @@ then_lower_left a b c h k =
     record { across = omega (arith, sums); up = omega (arith, sums) }
 
 -- where corners move outwards, what was in the box still is
-pub still_in_box : (low high low' high' q : Place) → IsLowerLeft low' low → IsLowerLeft high high' → IsInBox low high q → IsInBox low' high' q
+pub still_in_box : (low high low' high' q : Place) → IsLowerLeft low' low → IsLowerLeft high high' → IsInBox low high q
+    → IsInBox low' high' q
 still_in_box low high low' high' q lower upper h =
     record { from_low = then_lower_left low' low q lower h.from_low; to_high = then_lower_left q high high' h.to_high upper }

@@ -8,4 +8,5 @@ use Rattle.chain_reach.specs.declared.extent.Extent.{Extent}
 
 -- what is near an edge between the places number `start` and `end` of the walk, and in the box `whole`, is in the box `block`
 abbrev pub AreFoundIn : List Place → ℕ → ℕ → Steps → Extent → Extent → Type 0
-AreFoundIn walk start end steps whole block = (edge : ℕ) (p : Place) → start ≤ edge → edge < end → IsNearEdge steps walk p edge → IsInBox whole.low whole.high p → IsInBox block.low block.high p
+AreFoundIn walk start end steps whole block = (edge : ℕ) (p : Place) → start ≤ edge → edge < end → IsNearEdge steps walk p edge
+    → IsInBox whole.low whole.high p → IsInBox block.low block.high p

@@ -41,7 +41,8 @@ impl Extent {
     /// The part of the box `whole` that is in this box, grown by the steps on all four sides.
     pub fn grown_within(&self, steps: Steps, whole: &Extent) -> Extent
         ensures { (p : Place) → IsInBox result.low result.high p
-            ↔ (IsInBox whole.now.low whole.now.high p × IsWithinSteps steps self.now.low self.now.high p) }
+            ↔ (IsInBox whole.now.low whole.now.high p
+            × IsWithinSteps steps self.now.low self.now.high p) }
     {
         Extent {
             low: lowered(self.low, steps, whole.low),
@@ -103,7 +104,8 @@ fn highest(a: Point, b: Point) -> Point
 
 // The place so many steps further to the left and down, but no further than the floor.
 fn lowered(place: Point, steps: Steps, floor: Point) -> Point
-    ensures across { (z : ℤ) → (result.x ≤ℤ z) ↔ ((floor.x ≤ℤ z) × (place.x ≤ℤ (z +ℤ pos steps.across))) }
+    ensures across { (z : ℤ) → (result.x ≤ℤ z)
+        ↔ ((floor.x ≤ℤ z) × (place.x ≤ℤ (z +ℤ pos steps.across))) }
     ensures up { (z : ℤ) → (result.y ≤ℤ z) ↔ ((floor.y ≤ℤ z) × (place.y ≤ℤ (z +ℤ pos steps.up))) }
 {
     Point::new(left_of(place, steps, floor), below(place, steps, floor)).unwrap()
@@ -111,7 +113,8 @@ fn lowered(place: Point, steps: Steps, floor: Point) -> Point
 
 // The place so many steps further to the right and up, but no further than the ceiling.
 fn raised(place: Point, steps: Steps, ceiling: Point) -> Point
-    ensures across { (z : ℤ) → (z ≤ℤ result.x) ↔ ((z ≤ℤ ceiling.x) × (z ≤ℤ (place.x +ℤ pos steps.across))) }
+    ensures across { (z : ℤ) → (z ≤ℤ result.x)
+        ↔ ((z ≤ℤ ceiling.x) × (z ≤ℤ (place.x +ℤ pos steps.across))) }
     ensures up { (z : ℤ) → (z ≤ℤ result.y) ↔ ((z ≤ℤ ceiling.y) × (z ≤ℤ (place.y +ℤ pos steps.up))) }
 {
     Point::new(
@@ -123,7 +126,8 @@ fn raised(place: Point, steps: Steps, ceiling: Point) -> Point
 
 fn left_of(place: Point, steps: Steps, floor: Point) -> i64
     ensures on_grid { IsGridNumber result }
-    ensures value { (z : ℤ) → (result ≤ℤ z) ↔ ((floor.x ≤ℤ z) × (place.x ≤ℤ (z +ℤ pos steps.across))) }
+    ensures value { (z : ℤ) → (result ≤ℤ z)
+        ↔ ((floor.x ≤ℤ z) × (place.x ≤ℤ (z +ℤ pos steps.across))) }
 {
     let left = place.x() - i64::from(steps.across);
     if left < floor.x() { floor.x() } else { left }
@@ -139,7 +143,8 @@ fn below(place: Point, steps: Steps, floor: Point) -> i64
 
 fn right_of(place: Point, steps: Steps, ceiling: Point) -> i64
     ensures on_grid { IsGridNumber result }
-    ensures value { (z : ℤ) → (z ≤ℤ result) ↔ ((z ≤ℤ ceiling.x) × (z ≤ℤ (place.x +ℤ pos steps.across))) }
+    ensures value { (z : ℤ) → (z ≤ℤ result)
+        ↔ ((z ≤ℤ ceiling.x) × (z ≤ℤ (place.x +ℤ pos steps.across))) }
 {
     let right = place.x() + i64::from(steps.across);
     if right > ceiling.x() {
@@ -151,7 +156,8 @@ fn right_of(place: Point, steps: Steps, ceiling: Point) -> i64
 
 fn above(place: Point, steps: Steps, ceiling: Point) -> i64
     ensures on_grid { IsGridNumber result }
-    ensures value { (z : ℤ) → (z ≤ℤ result) ↔ ((z ≤ℤ ceiling.y) × (z ≤ℤ (place.y +ℤ pos steps.up))) }
+    ensures value { (z : ℤ) → (z ≤ℤ result)
+        ↔ ((z ≤ℤ ceiling.y) × (z ≤ℤ (place.y +ℤ pos steps.up))) }
 {
     let high = place.y() + i64::from(steps.up);
     if high > ceiling.y() {

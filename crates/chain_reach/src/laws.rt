@@ -1,5 +1,8 @@
 //! Laws over the definitions alone: functions that do nothing, with a law each as their contract.
-ghost use Rattle.chain_reach.specs.Laws.{BoxesFindReach, InReachOrOut, OnlyReachCounts, OnlyReachCountsOfChain, OutOfHullIsEven, OutOfHullKeepsSide, OutOfReachKeepsSide, OutOfReachIsEven, ReachIsInSteps};
+ghost use Rattle.chain_reach.specs.Laws.{BoxesFindReach, InReachOrOut, OnlyReachCounts};
+ghost use Rattle.chain_reach.specs.Laws.{OnlyReachCountsOfChain, OutOfHullIsEven};
+ghost use Rattle.chain_reach.specs.Laws.{OutOfHullKeepsSide, OutOfReachKeepsSide, OutOfReachIsEven};
+ghost use Rattle.chain_reach.specs.Laws.{ReachIsInSteps};
 
 /// A place out of the convex hull of a run does not change sides where the run is cut short, in
 /// either frame.

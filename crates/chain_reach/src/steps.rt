@@ -1,5 +1,6 @@
 //! Reach in whole steps of the grid.
-ghost use Rattle.std.specs.Prelude.{◌≡◌, ◌⊎◌, ◌↔◌, ◌+◌, ◌*◌, ◌<◌, ◌≤◌, ◌^◌, IsTrue, pos, ◌+ℤ◌, ◌≤ℤ◌, unsigned_abs};
+ghost use Rattle.std.specs.Prelude.{◌≡◌, ◌⊎◌, ◌↔◌, ◌+◌, ◌*◌, ◌<◌, ◌≤◌, ◌^◌, IsTrue, pos, ◌+ℤ◌};
+ghost use Rattle.std.specs.Prelude.{◌≤ℤ◌, unsigned_abs};
 ghost use Rattle.chain_reach.specs.Reach.{IsInGrownBox};
 ghost use Rattle.chain_reach.specs.Steps.{AreStepsOf, IsNearSomeEdge};
 
@@ -95,14 +96,16 @@ fn is_near(a: Point, b: Point, steps: Steps, p: Point) -> bool
 
 // Whether p is not to the left of the grown box.
 fn is_past_left(a: Point, b: Point, steps: Steps, p: Point) -> bool
-    ensures { IsTrue result ↔ ((a.x ≤ℤ (p.x +ℤ pos steps.across)) ⊎ (b.x ≤ℤ (p.x +ℤ pos steps.across))) }
+    ensures { IsTrue result ↔ ((a.x ≤ℤ (p.x +ℤ pos steps.across))
+        ⊎ (b.x ≤ℤ (p.x +ℤ pos steps.across))) }
 {
     is_across(a, p, steps) || is_across(b, p, steps)
 }
 
 // Whether p is not to the right of the grown box.
 fn is_before_right(a: Point, b: Point, steps: Steps, p: Point) -> bool
-    ensures { IsTrue result ↔ ((p.x ≤ℤ (a.x +ℤ pos steps.across)) ⊎ (p.x ≤ℤ (b.x +ℤ pos steps.across))) }
+    ensures { IsTrue result ↔ ((p.x ≤ℤ (a.x +ℤ pos steps.across))
+        ⊎ (p.x ≤ℤ (b.x +ℤ pos steps.across))) }
 {
     is_across(p, a, steps) || is_across(p, b, steps)
 }

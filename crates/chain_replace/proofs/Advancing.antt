@@ -1,5 +1,6 @@
 -- A run under way with its memory: at its start, and where the next chain stays or is replaced.
-use Rattle.std.proofs.Common.{◌≡◌, ◌∙◌, ℕ, ◌+◌, ◌<◌, ◌≤◌, ◌^◌, List, [], ◌∷◌, All, inl, inr, Some, length, slice_get, drop, refl, sym, ap, subst, arith}
+use Rattle.std.proofs.Common.{◌≡◌, ◌∙◌, ℕ, ◌+◌, ◌<◌, ◌≤◌, ◌^◌, List, [], ◌∷◌, All, inl, inr, Some, length, slice_get, drop, refl, sym, ap}
+use Rattle.std.proofs.Common.{subst, arith}
 use Rattle.std.proofs.lemmas.List.{append-nil, length-set, drop-set-lt}
 use Rattle.std.proofs.lemmas.List.Sums.{sum_by-drop_more}
 use Rattle.std.proofs.lemmas.Option.{get_or_from_slice_get}
@@ -29,9 +30,16 @@ pub record IsFresh (s : Inside) (m : Map) (refs : List ChainRef) : Type 0 where
   pub work : s.map ≡ work_of m refs
   pub next : s.next ≡ 0
   pub items : items_in s.map ≤ s.finder.room
-  pub records : s.records ≡ record { entries = []; room = length s.map.chains; kept_room = vertices_in s.map.chains; layers_room = vertices_in s.map.chains }
+  pub records : s.records ≡ record {
+    entries = [];
+    room = length s.map.chains;
+    kept_room = vertices_in s.map.chains;
+    layers_room =
+        vertices_in s.map.chains;
+  }
 
-pub under_way_start : (s : Inside) (m : Map) (refs : List ChainRef) → IsFresh s m refs → AreChainsIn m refs → IsMapArranged s.terms.held m → All (All (StaysOnGrid s.terms.weights)) m.arcs → length s.map.chains ≤ 2 ^ 20 → IsUnderWay s
+pub under_way_start : (s : Inside) (m : Map) (refs : List ChainRef) → IsFresh s m refs → AreChainsIn m refs → IsMapArranged s.terms.held m
+    → All (All (StaysOnGrid s.terms.weights)) m.arcs → length s.map.chains ≤ 2 ^ 20 → IsUnderWay s
 under_way_start s m refs fresh chains was on_grid few =
     let t : Terms = s.terms in
     let few_read = subst (λ (w : Work). length w.chains ≤ 2 ^ 20) fresh.work few in
@@ -39,7 +47,8 @@ under_way_start s m refs fresh chains was on_grid few =
     ap (λ (w : Work). record { work = w; terms = t; next = s.next; records = s.records.entries }) fresh.work
     ∙ ap (λ (n : ℕ). record { work = work_of m refs; terms = t; next = n; records = s.records.entries }) fresh.next
     ∙ ap (λ (rs : Records). record { work = work_of m refs; terms = t; next = 0; records = rs.entries }) fresh.records in
-    let left : vertices_in (drop s.next s.map.chains) ≡ vertices_in s.map.chains = ap (λ (n : ℕ). vertices_in (drop n s.map.chains)) fresh.next in
+    let left : vertices_in (drop s.next s.map.chains) ≡ vertices_in s.map.chains =
+    ap (λ (n : ℕ). vertices_in (drop n s.map.chains)) fresh.next in
     record {
       sound = subst IsSound (sym same) (sound_start m refs t chains was on_grid few_read);
       room = record {
@@ -59,28 +68,40 @@ pub record NextIs (p : Progress) (r : ChainRef) : Type 0 where
 pub next_is : (p : Progress) (r : ChainRef) → IsSound p → p.next < length p.work.chains → slice_get p.work.refs p.next ≡ Some r → NextIs p r
 next_is p r sound below there =
     let place = get_or_from_slice_get p.work.refs p.next r no_ref there in
-    let read : chain_at p.work.chains p.next ≡ chain_in p.work.read r = sound.as_read p.next (omega arith) below ∙ ap (chain_in p.work.read) place in
+    let read : chain_at p.work.chains p.next ≡ chain_in p.work.read r = sound.as_read p.next (omega arith) below
+    ∙ ap (chain_in p.work.read) place in
     record { arc = sym (ap (λ (k : Chain). k.first.arc) read); start = sym (ap (λ (k : Chain). k.first.at) read) }
 
 -- ---- the next chain stays
 
 -- what is left of the chains behind the next one
-chains_left : (chains : List Chain) (k : ℕ) → k < length chains → vertices_in (drop k chains) ≡ length (chain_at chains k).rest + 1 + vertices_in (drop (k + 1) chains)
+chains_left : (chains : List Chain) (k : ℕ) → k < length chains
+    → vertices_in (drop k chains) ≡ length (chain_at chains k).rest + 1 + vertices_in (drop (k + 1) chains)
 chains_left chains k below = sum_by-drop_more (λ (c : Chain). length c.rest + 1) chains k no_chain below
 
 abbrev pub with_next : Inside → ℕ → Inside
 with_next s n = record s { next = n }
 
-pub step_stays : (s : Inside) → IsChainHeld (progress_of s).terms s.map s.next → IsStep (progress_of s) (progress_of (with_next s (s.next + 1)))
-step_stays s held = record { terms = refl; next = refl; added = []; records = sym (append-nil s.records.entries); replaced = inl (held, (refl, refl)) }
+pub step_stays : (s : Inside) → IsChainHeld (progress_of s).terms s.map s.next
+    → IsStep (progress_of s) (progress_of (with_next s (s.next + 1)))
+step_stays s held = record {
+  terms = refl;
+  next = refl;
+  added = [];
+  records = sym (append-nil s.records.entries);
+  replaced =
+      inl (held, (refl, refl));
+}
 
-pub under_way_stays : (s : Inside) → IsUnderWay s → s.next < length s.map.chains → IsChainHeld (progress_of s).terms s.map s.next → IsUnderWay (with_next s (s.next + 1))
+pub under_way_stays : (s : Inside) → IsUnderWay s → s.next < length s.map.chains → IsChainHeld (progress_of s).terms s.map s.next
+    → IsUnderWay (with_next s (s.next + 1))
 under_way_stays s under below held =
     let p = progress_of s in
     let room = under.room in
     let left = chains_left s.map.chains s.next below in
     record {
-      sound = subst (λ (rs : List Record). IsSound (record { work = s.map; terms = p.terms; next = s.next + 1; records = rs })) (append-nil s.records.entries) (sound_more p [] s.map under.sound below (inl (held, (refl, refl))));
+      sound = subst (λ (rs : List Record). IsSound (record { work = s.map; terms = p.terms; next = s.next + 1; records = rs }))
+          (append-nil s.records.entries) (sound_more p [] s.map under.sound below (inl (held, (refl, refl))));
       room = record {
         items = room.items;
         records = omega (arith, room.records);
@@ -94,7 +115,8 @@ faces_stay p sound = record { arranged = arranged_now p sound; parity = λ pt ar
 
 -- ---- the next chain is replaced
 
-pub record_fits : (s : Inside) (r : Record) → IsUnderWay s → s.next < length s.map.chains → IsRecordOf (progress_of s).terms s.map s.next r → Fits s.records r
+pub record_fits : (s : Inside) (r : Record) → IsUnderWay s → s.next < length s.map.chains → IsRecordOf (progress_of s).terms s.map s.next r
+    → Fits s.records r
 record_fits s r under below is =
     let t = (progress_of s).terms in
     let left = chains_left s.map.chains s.next below in
@@ -115,13 +137,18 @@ with_record s r finder = record {
   next = s.next + 1;
 }
 
-pub replaced_by : (s : Inside) (r : Record) → ¬ (IsChainHeld (progress_of s).terms s.map s.next) → IsRecordOf (progress_of s).terms s.map s.next r → AreReplaced (progress_of s).terms s.map s.next 1 (r ∷ []) (thinned_work s.map s.next r.kept)
+pub replaced_by : (s : Inside) (r : Record) → ¬ (IsChainHeld (progress_of s).terms s.map s.next)
+    → IsRecordOf (progress_of s).terms s.map s.next r
+    → AreReplaced (progress_of s).terms s.map s.next 1 (r ∷ []) (thinned_work s.map s.next r.kept)
 replaced_by s r free is = let none : List Record = [] in inr (free, r, none, refl, is, (refl, refl))
 
-pub step_goes : (s : Inside) (r : Record) (finder : Found) → ¬ (IsChainHeld (progress_of s).terms s.map s.next) → IsRecordOf (progress_of s).terms s.map s.next r → IsStep (progress_of s) (progress_of (with_record s r finder))
+pub step_goes : (s : Inside) (r : Record) (finder : Found) → ¬ (IsChainHeld (progress_of s).terms s.map s.next)
+    → IsRecordOf (progress_of s).terms s.map s.next r → IsStep (progress_of s) (progress_of (with_record s r finder))
 step_goes s r finder free is = record { terms = refl; next = refl; added = r ∷ []; records = refl; replaced = replaced_by s r free is }
 
-pub under_way_goes : (s : Inside) (r : Record) (finder : Found) → IsUnderWay s → s.next < length s.map.chains → ¬ (IsChainHeld (progress_of s).terms s.map s.next) → IsRecordOf (progress_of s).terms s.map s.next r → finder.room ≡ s.finder.room → IsUnderWay (with_record s r finder)
+pub under_way_goes : (s : Inside) (r : Record) (finder : Found) → IsUnderWay s → s.next < length s.map.chains
+    → ¬ (IsChainHeld (progress_of s).terms s.map s.next) → IsRecordOf (progress_of s).terms s.map s.next r → finder.room ≡ s.finder.room
+    → IsUnderWay (with_record s r finder)
 under_way_goes s r finder under below free is same_room =
     let p = progress_of s in
     let room = under.room in
@@ -142,8 +169,11 @@ under_way_goes s r finder under below free is same_room =
       };
     }
 
-pub faces_go : (s : Inside) (r : Record) (finder : Found) → IsUnderWay s → s.next < length s.map.chains → ¬ (IsChainHeld (progress_of s).terms s.map s.next) → IsRecordOf (progress_of s).terms s.map s.next r → KeepsFaces s.terms.held (map_so_far (progress_of s)) (map_so_far (progress_of (with_record s r finder)))
-faces_go s r finder under below free is = faces_kept (progress_of s) (r ∷ []) (thinned_work s.map s.next r.kept) under.sound below (replaced_by s r free is)
+pub faces_go : (s : Inside) (r : Record) (finder : Found) → IsUnderWay s → s.next < length s.map.chains
+    → ¬ (IsChainHeld (progress_of s).terms s.map s.next) → IsRecordOf (progress_of s).terms s.map s.next r
+    → KeepsFaces s.terms.held (map_so_far (progress_of s)) (map_so_far (progress_of (with_record s r finder)))
+faces_go s r finder under below free is = faces_kept (progress_of s) (r ∷ []) (thinned_work s.map s.next r.kept) under.sound below
+    (replaced_by s r free is)
 
 -- the path that was found rises from the first vertex to the last
 pub kept_rises : (t : Terms) (w : Work) (k : ℕ) (r : Record) → IsRecordOf t w k r → AreKeptIn (chain_at w.chains k) r.kept

@@ -1,5 +1,6 @@
 -- Best paths and layers: there is one of each, layers certify the best path, and a path's numbers rise from the first vertex to the last.
-use Rattle.std.proofs.Common.{◌≡◌, ◌∙◌, ℕ, zero, suc, ◌+◌, ◌-◌, ◌<◌, ◌≤◌, List, [], ◌∷◌, inl, inr, length, get_or, slice_index, drop, refl, sym, ap, subst, arith}
+use Rattle.std.proofs.Common.{◌≡◌, ◌∙◌, ℕ, zero, suc, ◌+◌, ◌-◌, ◌<◌, ◌≤◌, List, [], ◌∷◌, inl, inr, length, get_or, slice_index, drop, refl}
+use Rattle.std.proofs.Common.{sym, ap, subst, arith}
 use Rattle.std.specs.List.Sorted.{IsStrictlyIncreasing}
 use Rattle.std.proofs.lemmas.Grind.{same_number_lists}
 use Rattle.grid_exact.specs.Paths.{LeadsTo, IsPath, IsLeastSteps, AreLayers, Precedes, IsBestPath, Certifies}
@@ -22,7 +23,8 @@ both_precede (x ∷ xs) (y ∷ ys) same (inr on) (inr back) =
     let rest = both_precede xs ys (omega arith) on.1 back.1 in
     cc
 
-pub best_path_is_one : (Pair : ℕ → ℕ → Type 0) (m : ℕ) (path other : List ℕ) → IsBestPath Pair m path → IsBestPath Pair m other → path ≡ other
+pub best_path_is_one : (Pair : ℕ → ℕ → Type 0) (m : ℕ) (path other : List ℕ) → IsBestPath Pair m path → IsBestPath Pair m other
+    → path ≡ other
 best_path_is_one Pair m path other best as_good =
     let same : length path ≡ length other = omega (arith, best.fewest other as_good.leads, as_good.fewest path best.leads) in
     both_precede path other same (best.first other as_good.leads (sym same)) (as_good.first path best.leads same)
@@ -31,7 +33,8 @@ least_is_one : (Pair : ℕ → ℕ → Type 0) (m i n k : ℕ) → IsLeastSteps 
 least_is_one Pair m i n k first second =
     omega (arith, first.least second.some.0 second.some.1, second.least first.some.0 first.some.1, first.some.2, second.some.2)
 
-pub layers_are_one : (Pair : ℕ → ℕ → Type 0) (m : ℕ) (layers others : List ℕ) → AreLayers Pair m layers → AreLayers Pair m others → layers ≡ others
+pub layers_are_one : (Pair : ℕ → ℕ → Type 0) (m : ℕ) (layers others : List ℕ) → AreLayers Pair m layers → AreLayers Pair m others
+    → layers ≡ others
 layers_are_one Pair m layers others first second =
     same_number_lists layers others (first.count ∙ sym second.count) (λ k below.
     let within : k ≤ m = omega (arith, first.count) in
@@ -40,20 +43,29 @@ layers_are_one Pair m layers others first second =
 -- ---- layers certify the best path
 
 -- what a path has after its first vertex
-pub path_leads : (Pair : ℕ → ℕ → Type 0) (m : ℕ) (path : List ℕ) → IsPath Pair m path → LeadsTo Pair m 0 (drop 1 path) × (length path ≡ suc (length (drop 1 path)))
+pub path_leads : (Pair : ℕ → ℕ → Type 0) (m : ℕ) (path : List ℕ) → IsPath Pair m path
+    → LeadsTo Pair m 0 (drop 1 path) × (length path ≡ suc (length (drop 1 path)))
 path_leads Pair m [] none = absurd none
 path_leads Pair m (start ∷ rest) path = (path.1, refl)
 
 path_from : (Pair : ℕ → ℕ → Type 0) (m : ℕ) (rest : List ℕ) → LeadsTo Pair m 0 rest → IsPath Pair m (0 ∷ rest)
 path_from Pair m rest leads = (refl, leads)
 
-pub best_is_certified : (Pair : ℕ → ℕ → Type 0) (m : ℕ) (path layers : List ℕ) → IsBestPath Pair m path → AreLayers Pair m layers → Certifies Pair m (length path - 1) layers
+pub best_is_certified : (Pair : ℕ → ℕ → Type 0) (m : ℕ) (path layers : List ℕ) → IsBestPath Pair m path → AreLayers Pair m layers
+    → Certifies Pair m (length path - 1) layers
 best_is_certified Pair m path layers best known =
     let sure = certify Pair m layers known in
     let start = known.each 0 (omega arith) in
     let own = path_leads Pair m path best.leads in
     let steps : slice_index layers 0 ≡ length path - 1 =
-    omega (arith, start.least (drop 1 path) own.0, own.1, start.some.2, best.fewest (0 ∷ start.some.0) (path_from Pair m start.some.0 start.some.1)) in
+    omega (
+      arith,
+      start.least (drop 1 path) own.0,
+      own.1,
+      start.some.2,
+      best.fewest (0 ∷ start.some.0)
+          (path_from Pair m start.some.0 start.some.1),
+    ) in
     subst (λ (r : ℕ). Certifies Pair m r layers) steps sure
 
 -- ---- a path's numbers

@@ -17,12 +17,14 @@ last_place w k places same =
 one_edge : (t : Terms) (w : Work) (k : ℕ) → IsAllowedIn t w k 0 1
 one_edge t w k = Neighbours refl
 
-pub edge_path : (t : Terms) (w : Work) (k : ℕ) (places : List Place) (path : List ℕ) → places ≡ chain_places (chain_at w.chains k) → length places ≡ 2 → path ≡ 0 ∷ 1 ∷ [] → IsBestPath (IsAllowedIn t w k) (last_of w k) path
+pub edge_path : (t : Terms) (w : Work) (k : ℕ) (places : List Place) (path : List ℕ) → places ≡ chain_places (chain_at w.chains k)
+    → length places ≡ 2 → path ≡ 0 ∷ 1 ∷ [] → IsBestPath (IsAllowedIn t w k) (last_of w k) path
 edge_path t w k places path same two is =
     let last : 1 ≡ last_of w k = omega (arith, last_place w k places same) in
     rw is (subst (λ (m : ℕ). IsBestPath (IsAllowedIn t w k) m (0 ∷ 1 ∷ [])) last (single_path (IsAllowedIn t w k) (one_edge t w k)))
 
-pub edge_layers : (t : Terms) (w : Work) (k : ℕ) (places : List Place) (layers : List ℕ) → places ≡ chain_places (chain_at w.chains k) → length places ≡ 2 → layers ≡ 1 ∷ 0 ∷ [] → AreLayers (IsAllowedIn t w k) (last_of w k) layers
+pub edge_layers : (t : Terms) (w : Work) (k : ℕ) (places : List Place) (layers : List ℕ) → places ≡ chain_places (chain_at w.chains k)
+    → length places ≡ 2 → layers ≡ 1 ∷ 0 ∷ [] → AreLayers (IsAllowedIn t w k) (last_of w k) layers
 edge_layers t w k places layers same two is =
     let last : 1 ≡ last_of w k = omega (arith, last_place w k places same) in
     rw is (subst (λ (m : ℕ). AreLayers (IsAllowedIn t w k) m (1 ∷ 0 ∷ [])) last (single_layers (IsAllowedIn t w k) (one_edge t w k)))

@@ -33,10 +33,16 @@ same_cut (x ∷ xs) (y ∷ ys) rest more whole count =
 
 -- ---- the chain that is cut off a walk
 
-furthest_is_one : (frame : Frame) (v : Vertex) (ws run other : List Vertex) → IsFurthest frame v ws run → IsFurthest frame v ws other → run ≡ other
+furthest_is_one : (frame : Frame) (v : Vertex) (ws run other : List Vertex) → IsFurthest frame v ws run → IsFurthest frame v ws other
+    → run ≡ other
 furthest_is_one frame v ws run other first second =
     let same : length run ≡ length other =
-    omega (arith, first.furthest other second.rest second.starts second.within second.one_way, second.furthest run first.rest first.starts first.within first.one_way) in
+    omega (
+      arith,
+      first.furthest other second.rest second.starts second.within second.one_way,
+      second.furthest run first.rest first.starts
+          first.within first.one_way,
+    ) in
     (same_cut run other first.rest second.rest (sym first.starts ∙ second.starts) same).front
 
 record SameWay (k l : Chain) : Type 0 where
@@ -79,7 +85,8 @@ walk_is_cut_once v ws (k ∷ ks) (l ∷ ls) first second =
     let head = same_chain k l (first.0 ∙ sym second.0) way in
     let parts = same_cut k.rest l.rest first.2 second.2 (sym first.3 ∙ second.3) (ap length way.rest) in
     let at_end = subst (λ (us : List Vertex). IsCutInto (end_of v us) second.2 ls) (sym way.rest) second.4 in
-    let later = walk_is_cut_once (end_of v k.rest) first.2 ks ls first.4 (subst (λ (us : List Vertex). IsCutInto (end_of v k.rest) us ls) (sym parts.back) at_end) in
+    let later = walk_is_cut_once (end_of v k.rest) first.2 ks ls first.4
+    (subst (λ (us : List Vertex). IsCutInto (end_of v k.rest) us ls) (sym parts.back) at_end) in
     cc
 
 list_is_cut_once : (vs : List Vertex) (ks ls : List Chain) → IsListCutInto vs ks → IsListCutInto vs ls → ks ≡ ls
@@ -115,7 +122,8 @@ same_ref m r s first second same =
     let last : r.to ≡ s.to = omega arith in
     same_fields r s arc start last frame
 
-same_refs : (m : Map) (refs others : List ChainRef) → All (LiesInArc m) refs → All (LiesInArc m) others → map (chain_in m) refs ≡ map (chain_in m) others → refs ≡ others
+same_refs : (m : Map) (refs others : List ChainRef) → All (LiesInArc m) refs → All (LiesInArc m) others
+    → map (chain_in m) refs ≡ map (chain_in m) others → refs ≡ others
 same_refs m [] [] first second same = refl
 same_refs m [] (s ∷ ss) first second same = cc
 same_refs m (r ∷ rs) [] first second same = cc
@@ -129,4 +137,5 @@ same_refs m (r ∷ rs) (s ∷ ss) first second same =
 -- the chains of a map lie in one list of places
 pub chains_lie_once : (m : Map) (refs others : List ChainRef) → AreChainsIn m refs → AreChainsIn m others → refs ≡ others
 chains_lie_once m refs others first second =
-    same_refs m refs others first.lie second.lie (arcs_are_cut_once 0 m.arcs (map (chain_in m) refs) (map (chain_in m) others) first.cut second.cut)
+    same_refs m refs others first.lie second.lie (arcs_are_cut_once 0 m.arcs (map (chain_in m) refs) (map (chain_in m) others) first.cut
+    second.cut)

@@ -25,7 +25,8 @@ record SameEnd (after other : Work) (records others : List Record) : Type 0 wher
   work : after ≡ other
   entries : records ≡ others
 
-replaced_once : (t : Terms) (w : Work) (k more : ℕ) (records others : List Record) (after other : Work) → AreReplaced t w k more records after → AreReplaced t w k more others other → SameEnd after other records others
+replaced_once : (t : Terms) (w : Work) (k more : ℕ) (records others : List Record) (after other : Work)
+    → AreReplaced t w k more records after → AreReplaced t w k more others other → SameEnd after other records others
 replaced_once t w k zero records others after other first second =
     record { work = sym first.1 ∙ second.1; entries = first.0 ∙ sym second.0 }
 replaced_once t w k (suc more) records others after other (inl first) (inl second) =
@@ -34,7 +35,8 @@ replaced_once t w k (suc more) records others after other (inl first) (inr secon
 replaced_once t w k (suc more) records others after other (inr first) (inl second) = absurd (first.0 second.0)
 replaced_once t w k (suc more) records others after other (inr first) (inr second) =
     let same = record_is_one t w k first.1 second.1 first.4 second.4 in
-    let later = replaced_once t (thinned_work w k first.1.kept) (suc k) more first.2 second.2 after other first.5 (subst (λ (r : Record). AreReplaced t (thinned_work w k r.kept) (suc k) more second.2 other) (sym same) second.5) in
+    let later = replaced_once t (thinned_work w k first.1.kept) (suc k) more first.2 second.2 after other first.5
+    (subst (λ (r : Record). AreReplaced t (thinned_work w k r.kept) (suc k) more second.2 other) (sym same) second.5) in
     record {
       work = later.work;
       entries = first.3 ∙ ap (λ (r : Record). r ∷ first.2) same ∙ ap (λ (rs : List Record). second.1 ∷ rs) later.entries ∙ sym second.3;
@@ -43,7 +45,8 @@ replaced_once t w k (suc more) records others after other (inr first) (inr secon
 pub outcome_is_one : OutcomeIsOne
 outcome_is_one m t after other records others first second =
     let places = chains_lie_once m first.refs second.refs first.chains second.chains in
-    let end = replaced_once t (work_of m first.refs) 0 (length first.refs) records others first.last second.last first.replaced (subst (λ (rs : List ChainRef). AreReplaced t (work_of m rs) 0 (length rs) others second.last) (sym places) second.replaced) in
+    let end = replaced_once t (work_of m first.refs) 0 (length first.refs) records others first.last second.last first.replaced
+    (subst (λ (rs : List ChainRef). AreReplaced t (work_of m rs) 0 (length rs) others second.last) (sym places) second.replaced) in
     (first.made ∙ ap (λ (w : Work). map_now m w.chains) end.work ∙ sym second.made, end.entries)
 
 pub layers_certify_path : LayersCertifyPath

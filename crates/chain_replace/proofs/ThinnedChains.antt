@@ -1,5 +1,6 @@
 -- What a run leaves of the chains of a map.
-use Rattle.std.proofs.Common.{◌≡◌, ◌≢◌, ◌∙◌, ℕ, zero, suc, ◌+◌, ◌<◌, ◌≤◌, List, [], ◌∷◌, inl, inr, length, set, drop, refl, sym, subst, arith}
+use Rattle.std.proofs.Common.{◌≡◌, ◌≢◌, ◌∙◌, ℕ, zero, suc, ◌+◌, ◌<◌, ◌≤◌, List, [], ◌∷◌, inl, inr, length, set, drop, refl, sym, subst}
+use Rattle.std.proofs.Common.{arith}
 use Rattle.std.specs.Prelude.{Contains}
 use Rattle.std.specs.List.{AllZip}
 use Rattle.std.proofs.lemmas.Bool.{cases_eq}
@@ -33,18 +34,21 @@ pub record ThinsFrom (t : Terms) (k : ℕ) (before after : List Chain) : Type 0 
 abbrev on_path : Chain → List ℕ → Chain
 on_path k kept = record k { rest = vertices_at k (drop 1 kept) }
 
-replaced_is_left : (t : Terms) (w : Work) (k : ℕ) (r : Record) → ¬ (IsChainHeld t w k) → IsRecordOf t w k r → IsLeftOf t (chain_at w.chains k) (on_path (chain_at w.chains k) r.kept)
+replaced_is_left : (t : Terms) (w : Work) (k : ℕ) (r : Record) → ¬ (IsChainHeld t w k) → IsRecordOf t w k r
+    → IsLeftOf t (chain_at w.chains k) (on_path (chain_at w.chains k) r.kept)
 replaced_is_left t w k r free is =
     let leads = (path_leads (IsAllowedIn t w k) (last_of w k) r.kept is.best.leads).0 in
     let path = path_in t.weights.x t.weights.y t.bound w.chains w.read.points k (drop 1 r.kept) leads in
     record {
       first = refl;
-      path = path_is_near (NearBy t) (IsOtherEdge w.chains k) (Contains w.read.points) (chain_at w.chains k).first (chain_at w.chains k).rest (vertices_at (chain_at w.chains k) (drop 1 r.kept)) path;
+      path = path_is_near (NearBy t) (IsOtherEdge w.chains k) (Contains w.read.points) (chain_at w.chains k).first
+          (chain_at w.chains k).rest (vertices_at (chain_at w.chains k) (drop 1 r.kept)) path;
       held = λ held. absurd (free held);
     }
 
 -- the chain number k is replaced, and what comes after it
-thins_more : (t : Terms) (k : ℕ) (x : Chain) (before after : List Chain) → k < length before → IsLeftOf t (chain_at before k) x → ThinsFrom t (suc k) (set before k x) after → ThinsFrom t k before after
+thins_more : (t : Terms) (k : ℕ) (x : Chain) (before after : List Chain) → k < length before → IsLeftOf t (chain_at before k) x
+    → ThinsFrom t (suc k) (set before k x) after → ThinsFrom t k before after
 thins_more t k x before after below here later =
     let count = length-set before k x in
     record {
@@ -53,14 +57,17 @@ thins_more t k x before after below here later =
       left = λ j. elim (cases_eq j k) [
         | inl same ↦
             subst (λ (i : ℕ). IsLeftOf t (chain_at before i) (chain_at after i)) (sym same)
-            (subst (λ (l : Chain). IsLeftOf t (chain_at before k) l) (sym (later.stay k (omega arith) ∙ get_or-set_same before k x no_chain below)) here)
+            (subst (λ (l : Chain). IsLeftOf t (chain_at before k) l)
+            (sym (later.stay k (omega arith) ∙ get_or-set_same before k x no_chain below)) here)
         | inr other ↦ subst (λ (l : Chain). IsLeftOf t l (chain_at after j)) (get_or-set_other before k j x no_chain other) (later.left j)
       ];
     }
 
-pub thins_from : (t : Terms) (w : Work) (k more : ℕ) (records : List Record) (after : Work) → k + more ≤ length w.chains → AreReplaced t w k more records after → ThinsFrom t k w.chains after.chains
+pub thins_from : (t : Terms) (w : Work) (k more : ℕ) (records : List Record) (after : Work) → k + more ≤ length w.chains
+    → AreReplaced t w k more records after → ThinsFrom t k w.chains after.chains
 thins_from t w k zero records after within run =
-    subst (λ (v : Work). ThinsFrom t k w.chains v.chains) run.1 (record { count = refl; stay = λ j below. refl; left = λ j. chain_stays t (chain_at w.chains j) })
+    subst (λ (v : Work). ThinsFrom t k w.chains v.chains) run.1
+    (record { count = refl; stay = λ j below. refl; left = λ j. chain_stays t (chain_at w.chains j) })
 thins_from t w k (suc more) records after within (inl run) =
     let later = thins_from t w (suc k) more records after (omega arith) run.1 in
     record { count = later.count; stay = λ j below. later.stay j (omega arith); left = later.left }
@@ -72,7 +79,8 @@ thins_from t w k (suc more) records after within (inr run) =
 
 -- ---- chain by chain
 
-pub each_is_left : (t : Terms) (ks ls : List Chain) → length ls ≡ length ks → ((j : ℕ) → IsLeftOf t (chain_at ks j) (chain_at ls j)) → AllZip (IsLeftOf t) ks ls
+pub each_is_left : (t : Terms) (ks ls : List Chain) → length ls ≡ length ks → ((j : ℕ) → IsLeftOf t (chain_at ks j) (chain_at ls j))
+    → AllZip (IsLeftOf t) ks ls
 each_is_left t [] [] count left = tt
 each_is_left t [] (l ∷ ls) count left = absurd (omega arith)
 each_is_left t (k ∷ ks) [] count left = absurd (omega arith)

@@ -1,5 +1,6 @@
 -- Coordinates that are weighed one after the other.
-use Rattle.std.proofs.Common.{◌≡◌, ◌≢◌, ◌∙◌, ℕ, ◌+◌, ◌<◌, ◌≤◌, ℤ, ◌*ℤ◌, List, set, take, length, get_or, sym, arith, below_more, get_or-set_other, get_or-set_same}
+use Rattle.std.proofs.Common.{◌≡◌, ◌≢◌, ◌∙◌, ℕ, ◌+◌, ◌<◌, ◌≤◌, ℤ, ◌*ℤ◌, List, set, take, length, get_or, sym, arith, below_more}
+use Rattle.std.proofs.Common.{get_or-set_other, get_or-set_same}
 use Rattle.std.proofs.lemmas.List.{length-set, length-take-le, get_or-take, get_or_default}
 use Rattle.grid_exact.specs.Geometry.{Place, IsGridNumber}
 use Rattle.grid_exact.specs.Weights.{Scales}
@@ -20,7 +21,9 @@ pub record AreWeighedBelow (weights : Scales) (places : List Place) (xs ys : Lis
   pub up : length places ≤ length ys
   pub each : (k : ℕ) → k < n → IsWeighedAt weights places xs ys k
 
-pub weighed_more : (weights : Scales) (places : List Place) (xs ys : List ℤ) (n : ℕ) (p : Place) (x y : ℤ) → n < length places → p ≡ get_or places n p → x ≡ weights.x *ℤ p.x → y ≡ weights.y *ℤ p.y → IsGridNumber x → IsGridNumber y → AreWeighedBelow weights places xs ys n → AreWeighedBelow weights places (set xs n x) (set ys n y) (n + 1)
+pub weighed_more : (weights : Scales) (places : List Place) (xs ys : List ℤ) (n : ℕ) (p : Place) (x y : ℤ) → n < length places
+    → p ≡ get_or places n p → x ≡ weights.x *ℤ p.x → y ≡ weights.y *ℤ p.y → IsGridNumber x → IsGridNumber y
+    → AreWeighedBelow weights places xs ys n → AreWeighedBelow weights places (set xs n x) (set ys n y) (n + 1)
 weighed_more weights places xs ys n p x y below there is_x is_y grid_x grid_y so_far =
     let in_xs : n < length xs = omega (arith, so_far.across) in
     let in_ys : n < length ys = omega (arith, so_far.up) in
@@ -46,7 +49,8 @@ weighed_more weights places xs ys n p x y below there is_x is_y grid_x grid_y so
           });
     }
 
-pub weighed_all : (weights : Scales) (places : List Place) (xs ys : List ℤ) (n : ℕ) → length places ≤ n → AreWeighedBelow weights places xs ys n → AreWeighed weights places (take (length places) xs) (take (length places) ys)
+pub weighed_all : (weights : Scales) (places : List Place) (xs ys : List ℤ) (n : ℕ) → length places ≤ n
+    → AreWeighedBelow weights places xs ys n → AreWeighed weights places (take (length places) xs) (take (length places) ys)
 weighed_all weights places xs ys n all done =
     let count = length places in
     let across : length (take count xs) ≡ count = length-take-le count xs done.across in

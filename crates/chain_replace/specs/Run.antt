@@ -48,7 +48,8 @@ abbrev pub AreReplaced : Terms → Work → ℕ → ℕ → List Record → Work
 AreReplaced t w k zero records after = (records ≡ []) × (w ≡ after)
 AreReplaced t w k (suc more) records after =
     (IsChainHeld t w k × AreReplaced t w (suc k) more records after)
-    ⊎ (¬ (IsChainHeld t w k) × (r : Record) × (rest : List Record) × (records ≡ r ∷ rest) × IsRecordOf t w k r × AreReplaced t (thinned_work w k r.kept) (suc k) more rest after)
+    ⊎ (¬ (IsChainHeld t w k) × (r : Record) × (rest : List Record) × (records ≡ r ∷ rest) × IsRecordOf t w k r
+    × AreReplaced t (thinned_work w k r.kept) (suc k) more rest after)
 
 -- the outcome of a run over the map, and its records
 pub record IsOutcome (m : Map) (t : Terms) (after : Map) (records : List Record) : Type 0 where

@@ -21,7 +21,8 @@ pub record IsThinned (Near : Place → Place → Place → Type 0) (before after
   pub rising : IsStrictlyIncreasing numbers
   pub places : after ≡ map (place_at before) numbers
   -- the place number i is near the edge between the n-th number and the next, where i is between them
-  pub near : (n i : ℕ) → n + 1 < length numbers → slice_index numbers n < i → i < slice_index numbers (n + 1) → Near (place_at before (slice_index numbers n)) (place_at before (slice_index numbers (n + 1))) (place_at before i)
+  pub near : (n i : ℕ) → n + 1 < length numbers → slice_index numbers n < i → i < slice_index numbers (n + 1)
+      → Near (place_at before (slice_index numbers n)) (place_at before (slice_index numbers (n + 1))) (place_at before i)
 
 -- what became of an arc of the map with these chains: a held arc is unchanged; of each arc some places are left, both ends of its
 -- chains among them

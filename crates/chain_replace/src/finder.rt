@@ -21,8 +21,8 @@ use side_wedge::Beside;
 use std::alloc::Global;
 use std::marker::Model;
 
-// The best path of the chain that was looked at last, with its layers, and the memory in which both are worked out. Contracts
-// see the two, and how many items the index of the map may have.
+// The best path of the chain that was looked at last, with its layers, and the memory in which both
+// are worked out. Contracts see the two, and how many items the index of the map may have.
 #[derive(Drop)]
 pub struct PathFinder {
     rows: Rows,
@@ -85,9 +85,12 @@ impl PathFinder {
         requires chain { k < length map.now.chains }
         requires clear { IsClearIn map.now.chains map.now.read.points k }
         requires room { items_in map.now ≤ self.old.room }
-        requires on_grid { All (StaysOnGrid terms.now.weights) (chain_places (chain_at map.now.chains k)) }
-        ensures path { IsBestPath (IsAllowedIn terms.now map.now k) (last_of map.now k) self.new.path }
-        ensures layers { AreLayers (IsAllowedIn terms.now map.now k) (last_of map.now k) self.new.layers }
+        requires on_grid { All (StaysOnGrid terms.now.weights)
+            (chain_places (chain_at map.now.chains k)) }
+        ensures path { IsBestPath (IsAllowedIn terms.now map.now k) (last_of map.now k)
+            self.new.path }
+        ensures layers { AreLayers (IsAllowedIn terms.now map.now k) (last_of map.now k)
+            self.new.layers }
         ensures room { self.new.room ≡ self.old.room }
     {
         if map.chain(k).len() == 2 {
@@ -116,9 +119,12 @@ impl PathFinder {
         requires chain { k < length map.now.chains }
         requires clear { IsClearIn map.now.chains map.now.read.points k }
         requires room { items_in map.now ≤ self.old.room }
-        requires on_grid { All (StaysOnGrid terms.now.weights) (chain_places (chain_at map.now.chains k)) }
-        ensures path { IsBestPath (IsAllowedIn terms.now map.now k) (last_of map.now k) self.new.path }
-        ensures layers { AreLayers (IsAllowedIn terms.now map.now k) (last_of map.now k) self.new.layers }
+        requires on_grid { All (StaysOnGrid terms.now.weights)
+            (chain_places (chain_at map.now.chains k)) }
+        ensures path { IsBestPath (IsAllowedIn terms.now map.now k) (last_of map.now k)
+            self.new.path }
+        ensures layers { AreLayers (IsAllowedIn terms.now map.now k) (last_of map.now k)
+            self.new.layers }
         ensures room { self.new.room ≡ self.old.room }
     {
         let places = map.chain(k);
@@ -138,7 +144,8 @@ impl PathFinder {
     }
 }
 
-// Sets the bits of the pairs of chain number `k` that are allowed, and clears the others. The row is written over.
+// Sets the bits of the pairs of chain number `k` that are allowed, and clears the others. The row
+// is written over.
 fn fill_rows(
     rows: &mut Rows,
     map: &IndexedMap,
@@ -150,10 +157,13 @@ fn fill_rows(
     requires chain { k < length map.now.chains }
     requires clear { IsClearIn map.now.chains map.now.read.points k }
     requires beside { IsBeside map.now.chains map.now.read.points k beside.now }
-    requires reach { HoldsReach map.now.chains map.now.read.points k ruler.now.weights ruler.now.bound beside.now }
-    requires weighed { AreWeighed ruler.now.weights (chain_places (chain_at map.now.chains k)) ruler.now.xs.now ruler.now.ys.now }
+    requires reach { HoldsReach map.now.chains map.now.read.points k ruler.now.weights
+        ruler.now.bound beside.now }
+    requires weighed { AreWeighed ruler.now.weights (chain_places (chain_at map.now.chains k))
+        ruler.now.xs.now ruler.now.ys.now }
     requires row { last_of map.now k + 1 ≤ length row.old }
-    ensures pairs { AreAlike (HasBit rows.new) (IsAllowedHere ruler.now.bound ruler.now.weights map.now k) (last_of map.now k) }
+    ensures pairs { AreAlike (HasBit rows.new)
+        (IsAllowedHere ruler.now.bound ruler.now.weights map.now k) (last_of map.now k) }
     ensures length { length row.new ≡ length row.old }
 {
     let count = map.chain(k).len();

@@ -1,4 +1,5 @@
-//! The run over the chains of a map: each is replaced by its best path in the map as the chains before it left it.
+//! The run over the chains of a map: each is replaced by its best path in the map as the chains
+//! before it left it.
 #![tactic(auto)]
 
 mod finder;

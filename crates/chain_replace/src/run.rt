@@ -16,8 +16,9 @@ use monotone_split::split;
 use std::alloc::Global;
 use std::marker::Model;
 
-/// A run under way: the chains of a map are replaced one after the other, each by its best path in the map as found. Contracts
-/// see the map at work, what the run was given, the number of the next chain, and the records so far.
+/// A run under way: the chains of a map are replaced one after the other, each by its best path in
+/// the map as found. Contracts see the map at work, what the run was given, the number of the next
+/// chain, and the records so far.
 #[derive(Drop)]
 pub struct RunState {
     map: IndexedMap,
@@ -39,8 +40,8 @@ impl Model for RunState {
     ghost invariant = { IsUnderWay };
 }
 
-/// What a run comes to: the map with its chains replaced, beside the same held arcs, and the records of the chains that were
-/// replaced, in order.
+/// What a run comes to: the map with its chains replaced, beside the same held arcs, and the
+/// records of the chains that were replaced, in order.
 #[derive(Drop)]
 pub struct Outcome {
     /// the map with the held arcs
@@ -52,8 +53,8 @@ pub struct Outcome {
 impl RunState {
     ghost use Rattle.chain_replace.specs.Run.{IsStart, IsStep, map_so_far};
 
-    /// The run over the map with this bound, in grid units, and these weights, before its first chain. It takes all memory of
-    /// the run; the only error is want of it.
+    /// The run over the map with this bound, in grid units, and these weights, before its first
+    /// chain. It takes all memory of the run; the only error is want of it.
     pub fn new(
         alloc: Global,
         partly: Partly,
@@ -61,7 +62,8 @@ impl RunState {
         weights: Weights,
     ) -> Result<RunState, NoMemory>
         requires { All (All (StaysOnGrid weights)) partly.map.arcs }
-        ensures { IfOk result (IsStart partly.map (record { held = partly.held; bound = bound; weights = weights })) }
+        ensures { IfOk result (IsStart partly.map
+            (record { held = partly.held; bound = bound; weights = weights })) }
     {
         let held = copy_of(alloc, partly.held())?;
         let chains = split(alloc, partly.map())?;
@@ -109,8 +111,9 @@ impl RunState {
         self.map.work().chain_count()
     }
 
-    /// Replaces the next chain by its best path, and adds its record; a chain of a held arc stays, and has no record. It takes
-    /// no memory. The map is arranged beside the held arcs as before, and its faces stay.
+    /// Replaces the next chain by its best path, and adds its record; a chain of a held arc stays,
+    /// and has no record. It takes no memory. The map is arranged beside the held arcs as before,
+    /// and its faces stay.
     pub fn replace_chain(&mut self)
         requires { self.old.next < length self.old.work.chains }
         ensures step { IsStep self.old self.new }
@@ -162,9 +165,10 @@ fn vertex_count(work: &WorkMap) -> usize
     count
 }
 
-/// The run over all chains of the map, with this bound, in grid units, and these weights: the map with each chain of an arc that
-/// is not held replaced by its best path in the map as found, and the records. The held arcs stay. All memory is taken before the
-/// first chain is replaced; the only error is want of it.
+/// The run over all chains of the map, with this bound, in grid units, and these weights: the map
+/// with each chain of an arc that is not held replaced by its best path in the map as found, and
+/// the records. The held arcs stay. All memory is taken before the first chain is replaced; the
+/// only error is want of it.
 pub fn run_chains(
     alloc: Global,
     partly: Partly,
@@ -172,7 +176,9 @@ pub fn run_chains(
     weights: Weights,
 ) -> Result<Outcome, NoMemory>
     requires { All (All (StaysOnGrid weights)) partly.map.arcs }
-    ensures outcome { IfOk result (λ o. IsOutcome partly.map (record { held = partly.held; bound = bound; weights = weights }) o.map.map o.records.entries) }
+    ensures outcome { IfOk result (λ o. IsOutcome partly.map
+        (record { held = partly.held; bound = bound; weights = weights }) o.map.map
+        o.records.entries) }
     ensures held { IfOk result (λ o. o.map.held ≡ partly.held) }
     ensures faces { IfOk result (λ o. KeepsFaces partly.held partly.map o.map.map) }
 {

@@ -6,12 +6,14 @@ ghost use Rattle.shortcut_graph.specs.Weighed.{AreWeighed};
 
 use grid_exact::{Point, Weights};
 
-// Writes the coordinates of the places, each times the weight of its axis, to the front of the lists.
+// Writes the coordinates of the places, each times the weight of its axis, to the front of the
+// lists.
 pub fn weigh(weights: Weights, places: &[Point], xs: &mut Vec<i64>, ys: &mut Vec<i64>)
     requires on_grid { All (StaysOnGrid weights) places.now }
     requires across { length places.now ≤ length xs.old.items }
     requires up { length places.now ≤ length ys.old.items }
-    ensures weighed { AreWeighed weights places.now (take (length places.now) xs.new.items) (take (length places.now) ys.new.items) }
+    ensures weighed { AreWeighed weights places.now (take (length places.now) xs.new.items)
+        (take (length places.now) ys.new.items) }
     ensures across { length xs.new.items ≡ length xs.old.items }
     ensures up { length ys.new.items ≡ length ys.old.items }
 {

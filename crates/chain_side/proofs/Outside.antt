@@ -21,7 +21,8 @@ passed_back frame true v w p (OutsideAfter h k) = Behind k h
 passed_back frame false v w p (OutsideBefore h k) = Behind k h
 passed_back frame false v w p (OutsideAfter h k) = Ahead k h
 
-closed_passed : (frame : Frame) (rising : Bool) (p v x : Place) (ws : List Place) → EachEdge (IsPassed frame rising p) v ws → IsPassed frame rising p (end_of v ws) x → EachEdge (IsPassed frame rising p) v (ws ++ x ∷ [])
+closed_passed : (frame : Frame) (rising : Bool) (p v x : Place) (ws : List Place) → EachEdge (IsPassed frame rising p) v ws
+    → IsPassed frame rising p (end_of v ws) x → EachEdge (IsPassed frame rising p) v (ws ++ x ∷ [])
 closed_passed frame rising p v x [] h k = (k, tt)
 closed_passed frame rising p v x (w ∷ ws) h k = (h.0, closed_passed frame rising p w x ws h.1 k)
 
@@ -32,32 +33,39 @@ all_off frame rising p v (w ∷ ws) h = (passed_off frame rising p v w h.0, all_
 pub outside_is_even : OutsideIsEven
 outside_is_even frame v ws p monotone out =
     let way = way_of frame v ws monotone in
-    let passed = closed_passed frame way.rising p v v ws (outside_passed frame way.rising v ws p way.runs out) (passed_back frame way.rising v (end_of v ws) p out) in
+    let passed = closed_passed frame way.rising p v v ws (outside_passed frame way.rising v ws p way.runs out)
+    (passed_back frame way.rising v (end_of v ws) p out) in
     let off = all_off frame way.rising p v (ws ++ v ∷ []) passed in
     (off, counted_in frame p v ws off ∙ all_uncrossed frame way.rising p v (ws ++ v ∷ []) passed)
 
 -- ---- between the ends
 
-some_spans : (frame : Frame) (rising : Bool) (v : Place) (ws : List Place) (p : Place) → EachEdge (IsAlong frame rising) v ws → ¬ (EdgeUnder v ws p) → IsAlong frame rising v p → IsAlong frame rising p (end_of v ws) → SpannedAlong frame rising v ws p
+some_spans : (frame : Frame) (rising : Bool) (v : Place) (ws : List Place) (p : Place) → EachEdge (IsAlong frame rising) v ws
+    → ¬ (EdgeUnder v ws p) → IsAlong frame rising v p → IsAlong frame rising p (end_of v ws) → SpannedAlong frame rising v ws p
 some_spans frame rising v [] p way off h k = absurd (one_way frame rising v p h k)
 some_spans frame rising v (w ∷ ws) p way off h k =
     elim (compared_along frame rising p w) [
       | Earlier l ↦ record { start = v; end = w; edge = inl (refl, refl); from = h; to = l }
       | There e ↦ absurd (off (record { start = v; end = w; edge = inl (refl, refl); on = end_is_on v w p e }))
       | Later l ↦
-          let later = some_spans frame rising w ws p way.1 (λ u. off (record { start = u.start; end = u.end; edge = inr u.edge; on = u.on })) l k in
+          let later = some_spans frame rising w ws p way.1 (λ u.
+          off (record { start = u.start; end = u.end; edge = inr u.edge; on = u.on })) l k in
           record { start = later.start; end = later.end; edge = inr later.edge; from = later.from; to = later.to }
     ]
 
-spanning : (frame : Frame) (rising : Bool) (v : Place) (ws : List Place) (p : Place) → SpannedAlong frame rising v ws p → SpanningEdge frame v ws p
+spanning : (frame : Frame) (rising : Bool) (v : Place) (ws : List Place) (p : Place) → SpannedAlong frame rising v ws p
+    → SpanningEdge frame v ws p
 spanning frame true v ws p a = record { first = a.start; second = a.end; edge = inl a.edge; from = a.from; to = a.to }
 spanning frame false v ws p a = record { first = a.end; second = a.start; edge = inr a.edge; from = a.to; to = a.from }
 
 -- p comes behind the start of the run and before its end
-between_along : (frame : Frame) (rising : Bool) (v w : Place) (ws : List Place) (p : Place) → EachEdge (IsAlong frame rising) v (w ∷ ws) → IsSpanned frame v (end_of w ws) p → IsAlong frame rising v p × IsAlong frame rising p (end_of w ws)
+between_along : (frame : Frame) (rising : Bool) (v w : Place) (ws : List Place) (p : Place) → EachEdge (IsAlong frame rising) v (w ∷ ws)
+    → IsSpanned frame v (end_of w ws) p → IsAlong frame rising v p × IsAlong frame rising p (end_of w ws)
 between_along frame true v w ws p way (Upwards h k) = (h, k)
-between_along frame true v w ws p way (Downwards h k) = absurd (one_way frame true v (end_of w ws) (ends_rise frame true v w ws way) (then_along frame true (end_of w ws) p v h k))
-between_along frame false v w ws p way (Upwards h k) = absurd (one_way frame false v (end_of w ws) (ends_rise frame false v w ws way) (then_along frame false (end_of w ws) p v k h))
+between_along frame true v w ws p way (Downwards h k) =
+    absurd (one_way frame true v (end_of w ws) (ends_rise frame true v w ws way) (then_along frame true (end_of w ws) p v h k))
+between_along frame false v w ws p way (Upwards h k) =
+    absurd (one_way frame false v (end_of w ws) (ends_rise frame false v w ws way) (then_along frame false (end_of w ws) p v k h))
 between_along frame false v w ws p way (Downwards h k) = (k, h)
 
 not_at_one : (frame : Frame) (v p : Place) → IsSpanned frame v v p → ⊥

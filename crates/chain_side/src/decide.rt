@@ -1,13 +1,15 @@
 //! The side of a point: the edge that spans it decides.
 ghost use Rattle.std.specs.Prelude.{◌≡◌, ◌↔◌};
-ghost use Rattle.chain_side.specs.Sides.{IsMonotoneChain, IsSideOfChain, IsSideOfEdge, IsSideBySign};
+ghost use Rattle.chain_side.specs.Sides.{IsMonotoneChain, IsSideOfChain, IsSideOfEdge};
+ghost use Rattle.chain_side.specs.Sides.{IsSideBySign};
 
 use crate::search::{comes_before, edge_at};
 use crate::sides::Side;
 use grid_exact::{Frame, Point, area, precedes};
 
-/// The side of a chain on which p lies. The chain is the list of its vertices, two or more, which run strictly one way in
-/// the order of the frame. An edge is found by halving, so a chain of n vertices takes about log2(n) comparisons.
+/// The side of a chain on which p lies. The chain is the list of its vertices, two or more, which
+/// run strictly one way in the order of the frame. An edge is found by halving, so a chain of n
+/// vertices takes about log2(n) comparisons.
 pub fn side(chain: &[Point], frame: Frame, p: Point) -> Side
     requires { IsMonotoneChain frame chain.now }
     ensures { (side : Side) → (result ≡ side) ↔ IsSideOfChain frame chain.now p side }

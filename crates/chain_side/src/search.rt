@@ -15,8 +15,9 @@ pub fn comes_before(frame: Frame, rising: bool, a: Point, b: Point) -> bool
     }
 }
 
-/// The number of an edge of a chain whose start p does not come before, and whose end does not come before p, found by
-/// halving. The chain is the list of its vertices, two or more, and p comes neither before the first nor after the last.
+/// The number of an edge of a chain whose start p does not come before, and whose end does not come
+/// before p, found by halving. The chain is the list of its vertices, two or more, and p comes
+/// neither before the first nor after the last.
 pub fn edge_at(chain: &[Point], frame: Frame, rising: bool, p: Point) -> usize
     requires has_edge { 2 ≤ length chain.now }
     requires from_first { ¬ (IsAlong frame rising p (vertex_at chain.now 0)) }

@@ -1,7 +1,7 @@
 //! The four places of a point seen from a chain.
 
-/// Where a point lies, seen from a chain. Above is where y is greater in the frame `Plain`, and where x is
-/// greater in the frame `Turned`.
+/// Where a point lies, seen from a chain. Above is where y is greater in the frame `Plain`, and
+/// where x is greater in the frame `Turned`.
 #[derive(Clone, Copy, PartialEq, Eq, Debug)]
 pub enum Side {
     /// above the edge that spans the point

@@ -62,13 +62,15 @@ touch-by_reference m q (negsuc k) = differ_turned (is_same (first_of m k) q) (is
 abbrev pub IsBalanced : Map → Place → Place → List ℕ → Type 0
 IsBalanced m start p unused = (q : Place) → pass_oddly (does_touch m q) unused ≡ differ (is_same start q) (is_same p q)
 
-pub balanced-first : (m : Map) (unused : List ℕ) (arc : ℕ) → AreOnce unused → Contains unused arc → IsEven m unused → IsBalanced m (first_of m arc) (last_of m arc) (without arc unused)
+pub balanced-first : (m : Map) (unused : List ℕ) (arc : ℕ) → AreOnce unused → Contains unused arc → IsEven m unused
+    → IsBalanced m (first_of m arc) (last_of m arc) (without arc unused)
 balanced-first m unused arc once held even q =
     pass-without (does_touch m q) arc unused once held
     ∙ ap (differ (does_touch m q arc)) (even q)
     ∙ differ_false (does_touch m q arc)
 
-pub balanced-next : (m : Map) (start p : Place) (unused : List ℕ) (r : ℤ) → AreOnce unused → IsNext m unused p r → IsBalanced m start p unused → IsBalanced m start (end_of m r) (without (arc_of r) unused)
+pub balanced-next : (m : Map) (start p : Place) (unused : List ℕ) (r : ℤ) → AreOnce unused → IsNext m unused p r
+    → IsBalanced m start p unused → IsBalanced m start (end_of m r) (without (arc_of r) unused)
 balanced-next m start p unused r once next balanced q =
     let touched = touch-by_reference m q r ∙ ap (λ s. differ (is_same s q) (is_same (end_of m r) q)) next.starts in
     pass-without (does_touch m q) (arc_of r) unused once next.least.among
@@ -77,9 +79,11 @@ balanced-next m start p unused r once next balanced q =
     ∙ differ-between (is_same p q) (is_same (end_of m r) q) (is_same start q)
 
 pub balanced-last : (m : Map) (start p : Place) (unused : List ℕ) → p ≡ start → IsBalanced m start p unused → IsEven m unused
-balanced-last m start p unused same balanced q = balanced q ∙ ap (λ s. differ (is_same start q) (is_same s q)) same ∙ differ_itself (is_same start q)
+balanced-last m start p unused same balanced q = balanced q ∙ ap (λ s. differ (is_same start q) (is_same s q)) same
+    ∙ differ_itself (is_same start q)
 
-pub goes-on : (m : Map) (start p : Place) (unused : List ℕ) → p ≢ start → IsBalanced m start p unused → (arc : ℕ) × Contains unused arc × EndsAt m p arc
+pub goes-on : (m : Map) (start p : Place) (unused : List ℕ) → p ≢ start → IsBalanced m start p unused
+    → (arc : ℕ) × Contains unused arc × EndsAt m p arc
 goes-on m start p unused apart balanced =
     let odd : pass_oddly (does_touch m p) unused ≡ true =
     balanced p ∙ ap (λ b. differ b (is_same p p)) (apart-places start p (λ same. apart (sym same))) ∙ same-itself p in

@@ -1,5 +1,6 @@
 -- The arcs that end at each position, one arc after another, falling.
-use Rattle.std.proofs.Common.{◌≡◌, ◌∙◌, ℕ, ◌+◌, ◌<◌, ◌≤◌, Bool, true, false, cond, List, [], ◌∷◌, ◌++◌, All, AllPairs, Contains, length, get_or, map, sym, ap, subst, arith, inl, inr}
+use Rattle.std.proofs.Common.{◌≡◌, ◌∙◌, ℕ, ◌+◌, ◌<◌, ◌≤◌, Bool, true, false, cond, List, [], ◌∷◌, ◌++◌, All, AllPairs, Contains, length}
+use Rattle.std.proofs.Common.{get_or, map, sym, ap, subst, arith, inl, inr}
 use Rattle.std.proofs.lemmas.Bool.{cases_Bool, cases_lt, true≢false}
 use Rattle.std.proofs.lemmas.List.{get_or_past}
 use Rattle.std.proofs.lemmas.List.Elements.{All-nil, All-push, All-weaker, Contains-append_left, Contains-push}
@@ -21,7 +22,8 @@ pub record AreHeld (m : Map) (from : ℕ) (p : Place) (arcs : List ℕ) : Type 0
   pub falling : AllPairs (λ j k. k ≤ j) arcs
   pub high : All (λ k. from ≤ k) arcs
 
-held-added : (m : Map) (arc : ℕ) (p q : Place) (arcs : List ℕ) → arc < length m.arcs → (p ≡ q → EndsAt m p arc) → AreHeld m arc p arcs → AreHeld m arc p (added_at q arc p arcs)
+held-added : (m : Map) (arc : ℕ) (p q : Place) (arcs : List ℕ) → arc < length m.arcs → (p ≡ q → EndsAt m p arc) → AreHeld m arc p arcs
+    → AreHeld m arc p (added_at q arc p arcs)
 held-added m arc p q arcs within ends are = elim (compared_places p q) [
   | Yes alike e ↦ subst (λ b. AreHeld m arc p (cond b (arcs ++ arc ∷ []) arcs)) (sym alike) (record {
     known = All-push (λ k. k < length m.arcs) arcs arc are.known within;
@@ -67,7 +69,8 @@ lower m arc p arcs are = record {
   high = All-weaker (λ k. arc + 1 ≤ k) (λ k. arc ≤ k) (λ k more. omega (arith, more)) arcs are.high;
 }
 
-pub listed-none : (m : Map) (marks : List Bool) (from : ℕ) (u : Unused) → u.marks.items ≡ marks → length marks ≤ from → u.places.keys ≡ [] → u.lists.items ≡ [] → AreListed m marks from u
+pub listed-none : (m : Map) (marks : List Bool) (from : ℕ) (u : Unused) → u.marks.items ≡ marks → length marks ≤ from → u.places.keys ≡ []
+    → u.lists.items ≡ [] → AreListed m marks from u
 listed-none m marks from u same past places lists =
     let empty = λ (p : Place). ap (λ ps. listed ps (map (λ arcs. arcs.items) u.lists.items) p) places in
     record {
@@ -77,7 +80,8 @@ listed-none m marks from u same past places lists =
       all = λ p k high is. absurd (true≢false (sym is ∙ get_or_past marks k false (omega (arith, past, high))));
     }
 
-pub listed-more : (m : Map) (marks : List Bool) (from arc : ℕ) (before after : Unused) → from ≡ arc + 1 → arc < length m.arcs → IsAddedAt m before after arc → AreListed m marks from before → AreListed m marks arc after
+pub listed-more : (m : Map) (marks : List Bool) (from arc : ℕ) (before after : Unused) → from ≡ arc + 1 → arc < length m.arcs
+    → IsAddedAt m before after arc → AreListed m marks from before → AreListed m marks arc after
 listed-more m marks from arc before after next within added are =
     let held_before = λ (p : Place). lower m arc p (arcs_at before p) (subst (λ n. AreHeld m n p (arcs_at before p)) next (are.held p)) in
     elim (cases_Bool (get_or before.marks.items arc false)) [
@@ -88,14 +92,18 @@ listed-more m marks from arc before after next within added are =
           record {
             marks_are = added.marks ∙ are.marks_are;
             lists = added.lists;
-            held = λ p. subst (AreHeld m arc p) (sym (after_at p)) (held-added m arc p last (added_at first arc p (arcs_at before p)) within (λ e. inr (sym e)) (held-added m arc p first (arcs_at before p) within (λ e. inl (sym e)) (held_before p)));
+            held = λ p. subst (AreHeld m arc p) (sym (after_at p))
+                (held-added m arc p last (added_at first arc p (arcs_at before p)) within (λ e. inr (sym e))
+                (held-added m arc p first (arcs_at before p) within (λ e. inl (sym e)) (held_before p)));
             all = λ p k high set ends. subst (λ arcs. Contains arcs k) (sym (after_at p)) (elim (cases_lt arc k) [
-              | inl above ↦ added-keeps arc k p last (added_at first arc p (arcs_at before p)) (added-keeps arc k p first (arcs_at before p) (are.all p k (omega (arith, next, above)) set ends))
+              | inl above ↦ added-keeps arc k p last (added_at first arc p (arcs_at before p))
+                  (added-keeps arc k p first (arcs_at before p) (are.all p k (omega (arith, next, above)) set ends))
               | inr not_above ↦
                   let same : arc ≡ k = omega (arith, high, not_above) in
                   subst (λ j. Contains (added_at last arc p (added_at first arc p (arcs_at before p))) j) same
                   (elim (subst (EndsAt m p) (sym same) ends) [
-                    | inl begins ↦ added-keeps arc arc p last (added_at first arc p (arcs_at before p)) (added-has arc p first (arcs_at before p) begins)
+                    | inl begins ↦ added-keeps arc arc p last (added_at first arc p (arcs_at before p))
+                        (added-has arc p first (arcs_at before p) begins)
                     | inr stops ↦ added-has arc p last (added_at first arc p (arcs_at before p)) stops
                   ])
             ]);
@@ -110,12 +118,14 @@ listed-more m marks from arc before after next within added are =
               | inl above ↦ are.all p k (omega (arith, next, above)) set ends
               | inr not_above ↦
                   let same : arc ≡ k = omega (arith, high, not_above) in
-                  absurd (true≢false (sym set ∙ ap (λ j. get_or marks j false) (sym same) ∙ ap (λ ms. get_or ms arc false) (sym are.marks_are) ∙ not))
+                  absurd (true≢false (sym set ∙ ap (λ j. get_or marks j false) (sym same)
+                  ∙ ap (λ ms. get_or ms arc false) (sym are.marks_are) ∙ not))
             ]);
           }
     ]
 
-pub listed-all : (m : Map) (marks : List Bool) (from : ℕ) (u : Unused) → from ≡ 0 → length marks ≡ length m.arcs → AreListed m marks from u → AreUnused m u
+pub listed-all : (m : Map) (marks : List Bool) (from : ℕ) (u : Unused) → from ≡ 0 → length marks ≡ length m.arcs → AreListed m marks from u
+    → AreUnused m u
 listed-all m marks from u start count are = record {
   count = ap length are.marks_are ∙ count;
   lists = are.lists;

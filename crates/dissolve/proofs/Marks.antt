@@ -1,5 +1,6 @@
 -- Marks that are set, as a list of their places.
-use Rattle.std.proofs.Common.{◌≡◌, ◌≢◌, ◌∙◌, ℕ, zero, suc, ◌+◌, ◌<◌, ◌≤◌, ◌==◌, Bool, true, false, cond, List, [], ◌∷◌, All, Contains, filter, length, get_or, set, refl, sym, ap, subst, arith, inl, inr}
+use Rattle.std.proofs.Common.{◌≡◌, ◌≢◌, ◌∙◌, ℕ, zero, suc, ◌+◌, ◌<◌, ◌≤◌, ◌==◌, Bool, true, false, cond, List, [], ◌∷◌, All, Contains}
+use Rattle.std.proofs.Common.{filter, length, get_or, set, refl, sym, ap, subst, arith, inl, inr}
 use Rattle.std.specs.Prelude.{not, ◌&&◌}
 use Rattle.std.specs.List.{range_with_len}
 use Rattle.std.proofs.lemmas.Bool.{cases_eq, cases_lt, eq-eqb, ne_eqb, true≢false}
@@ -29,21 +30,24 @@ cleared-at marks arc k = elim (cases_eq k arc) [
 
 pub still-marked : (marks : List Bool) (arc k : ℕ) → get_or (set marks arc false) k false ≡ true → (get_or marks k false ≡ true) × (k ≢ arc)
 still-marked marks arc k set_there = elim (cases_eq k arc) [
-  | inl same ↦ absurd (true≢false (sym set_there ∙ cleared-at marks arc k ∙ ap (λ b. get_or marks k false && not b) (eq-eqb k arc same) ∙ and-false (get_or marks k false)))
+  | inl same ↦ absurd (true≢false (sym set_there ∙ cleared-at marks arc k ∙ ap (λ b. get_or marks k false && not b) (eq-eqb k arc same)
+      ∙ and-false (get_or marks k false)))
   | inr apart ↦ (sym (get_or-set_other marks arc k false false apart) ∙ set_there, apart)
 ]
 
 filter-both : (p q : ℕ → Bool) (xs : List ℕ) → filter (λ x. q x && p x) xs ≡ filter p (filter q xs)
 filter-both p q [] = refl
-filter-both p q (x ∷ xs) = elim (q x) as (λ b. cond (b && p x) (x ∷ filter (λ y. q y && p y) xs) (filter (λ y. q y && p y) xs) ≡ filter p (cond b (x ∷ filter q xs) (filter q xs))) [
-  | true ↦ ap (λ ys. cond (p x) (x ∷ ys) ys) (filter-both p q xs)
-  | false ↦ filter-both p q xs
-]
+filter-both p q (x ∷ xs) = elim (q x) as (λ b. cond (b && p x) (x ∷ filter (λ y. q y && p y) xs) (filter (λ y. q y && p y) xs)
+    ≡ filter p (cond b (x ∷ filter q xs) (filter q xs))) [
+      | true ↦ ap (λ ys. cond (p x) (x ∷ ys) ys) (filter-both p q xs)
+      | false ↦ filter-both p q xs
+    ]
 
 pub marked-cleared : (marks : List Bool) (arc : ℕ) → marked (set marks arc false) ≡ without arc (marked marks)
 marked-cleared marks arc =
     ap (λ n. filter (λ k. get_or (set marks arc false) k false) (range_with_len 0 n)) (length-set marks arc false)
-    ∙ filter_agree (λ k. get_or (set marks arc false) k false) (λ k. get_or marks k false && not (k == arc)) (cleared-at marks arc) (range_with_len 0 (length marks))
+    ∙ filter_agree (λ k. get_or (set marks arc false) k false) (λ k. get_or marks k false && not (k == arc)) (cleared-at marks arc)
+    (range_with_len 0 (length marks))
     ∙ filter-both (λ k. not (k == arc)) (λ k. get_or marks k false) (range_with_len 0 (length marks))
 
 -- ---- membership
@@ -61,7 +65,8 @@ marked-within marks k is = elim (cases_lt k (length marks)) [
 ]
 
 pub is-marked : (marks : List Bool) (k : ℕ) → get_or marks k false ≡ true → Contains (marked marks) k
-is-marked marks k is = filter_holds (λ j. get_or marks j false) (range_with_len 0 (length marks)) k (in-range (length marks) k (marked-within marks k is)) is
+is-marked marks k is = filter_holds (λ j. get_or marks j false) (range_with_len 0 (length marks)) k
+    (in-range (length marks) k (marked-within marks k is)) is
 
 pub marked-is : (marks : List Bool) (k : ℕ) → Contains (marked marks) k → get_or marks k false ≡ true
 marked-is marks k held = (filter_from (λ j. get_or marks j false) (range_with_len 0 (length marks)) k held).1
@@ -73,7 +78,8 @@ marked-below marks k held = marked-within marks k (marked-is marks k held)
 
 range-from : (a n : ℕ) → All (λ k. a ≤ k) (range_with_len a n)
 range-from a zero = All-nil (λ k. a ≤ k)
-range-from a (suc n) = All-cons (λ k. a ≤ k) a (range_with_len (a + 1) n) (omega arith) (All-weaker (λ k. a + 1 ≤ k) (λ k. a ≤ k) (λ k more. omega (arith, more)) (range_with_len (a + 1) n) (range-from (a + 1) n))
+range-from a (suc n) = All-cons (λ k. a ≤ k) a (range_with_len (a + 1) n) (omega arith)
+    (All-weaker (λ k. a + 1 ≤ k) (λ k. a ≤ k) (λ k more. omega (arith, more)) (range_with_len (a + 1) n) (range-from (a + 1) n))
 
 pub range-once : (a n : ℕ) → AreOnce (range_with_len a n)
 range-once a zero = pairs_nil (λ j k. j ≢ k)

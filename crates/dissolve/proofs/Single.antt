@@ -4,7 +4,8 @@ use Rattle.std.specs.Prelude.{ℤ, pos, negsuc}
 use Rattle.grid_exact.specs.Geometry.{Place}
 use Rattle.arc_map.specs.Map.{Map}
 use Rattle.face_parity.proofs.Same.{in-none}
-use Rattle.dissolve.specs.Border.{arc_of, first_of, start_of, end_of, EndsAt, IsFirst, IsLeast, IsNext, IsRest, IsRing, AreRings, without, without_all}
+use Rattle.dissolve.specs.Border.{arc_of, first_of, start_of, end_of, EndsAt, IsFirst, IsLeast, IsNext, IsRest, IsRing, AreRings, without}
+use Rattle.dissolve.specs.Border.{without_all}
 
 same-least : (P : ℕ → Type 0) (arcs : List ℕ) (j k : ℕ) → IsLeast P arcs j → IsLeast P arcs k → j ≡ k
 same-least P arcs j k first second =
@@ -20,15 +21,18 @@ turned-apart : (k : ℕ) → negsuc k ≡ pos k → ⊥
 turned-apart k same = cc
 
 same-next : (m : Map) (unused : List ℕ) (p : Place) (r s : ℤ) → IsNext m unused p r → IsNext m unused p s → r ≡ s
-same-next m unused p r s first second = by_direction r s (same-least (EndsAt m p) unused (arc_of r) (arc_of s) first.least second.least) first.starts second.starts first.forwards second.forwards
+same-next m unused p r s first second = by_direction r s (same-least (EndsAt m p) unused (arc_of r) (arc_of s) first.least second.least)
+    first.starts second.starts first.forwards second.forwards
   where
-    by_direction : (x y : ℤ) → arc_of x ≡ arc_of y → start_of m x ≡ p → start_of m y ≡ p → (first_of m (arc_of x) ≡ p → x ≡ pos (arc_of x)) → (first_of m (arc_of y) ≡ p → y ≡ pos (arc_of y)) → x ≡ y
+    by_direction : (x y : ℤ) → arc_of x ≡ arc_of y → start_of m x ≡ p → start_of m y ≡ p → (first_of m (arc_of x) ≡ p → x ≡ pos (arc_of x))
+        → (first_of m (arc_of y) ≡ p → y ≡ pos (arc_of y)) → x ≡ y
     by_direction (pos j) (pos k) same begins ends one other = ap pos same
     by_direction (negsuc j) (negsuc k) same begins ends one other = ap negsuc same
     by_direction (pos j) (negsuc k) same begins ends one other = absurd (turned-apart k (other (ap (first_of m) (sym same) ∙ begins)))
     by_direction (negsuc j) (pos k) same begins ends one other = absurd (turned-apart j (one (ap (first_of m) same ∙ ends)))
 
-same-rest : (m : Map) (start p : Place) (unused : List ℕ) (rs ss : List ℤ) → IsRest m start p unused rs → IsRest m start p unused ss → rs ≡ ss
+same-rest : (m : Map) (start p : Place) (unused : List ℕ) (rs ss : List ℤ) → IsRest m start p unused rs → IsRest m start p unused ss
+    → rs ≡ ss
 same-rest m start p unused [] [] one other = refl
 same-rest m start p unused [] (s ∷ ss) one other = absurd (other.0 one)
 same-rest m start p unused (r ∷ rs) [] one other = absurd (one.0 other)
@@ -50,7 +54,8 @@ none-to-begin : (m : Map) (ring : List ℤ) → IsRing m [] ring → ⊥
 none-to-begin m [] is = is
 none-to-begin m (r ∷ rs) is = in-none (arc_of r) is.0.least.among
 
-pub same-rings : (m : Map) (unused : List ℕ) (rings others : List (List ℤ)) → AreRings m unused rings → AreRings m unused others → rings ≡ others
+pub same-rings : (m : Map) (unused : List ℕ) (rings others : List (List ℤ)) → AreRings m unused rings → AreRings m unused others
+    → rings ≡ others
 same-rings m unused [] [] one two = refl
 same-rings m unused [] (ring ∷ rings) one two = absurd (none-to-begin m ring (subst (λ xs. IsRing m xs ring) one two.0))
 same-rings m unused (ring ∷ rings) [] one two = absurd (none-to-begin m ring (subst (λ xs. IsRing m xs ring) two one.0))

@@ -1,5 +1,6 @@
 -- Even ends, and crossings, of the odd arcs.
-use Rattle.std.proofs.Common.{◌≡◌, ◌∙◌, ℕ, ◌+◌, ◌-◌, ◌<◌, ◌≤◌, ◌/◌, true, false, cond, List, [], ◌∷◌, Some, All, length, get_or, refl, sym, ap, arith}
+use Rattle.std.proofs.Common.{◌≡◌, ◌∙◌, ℕ, ◌+◌, ◌-◌, ◌<◌, ◌≤◌, ◌/◌, true, false, cond, List, [], ◌∷◌, Some, All, length, get_or, refl, sym}
+use Rattle.std.proofs.Common.{ap, arith}
 use Rattle.std.specs.Prelude.{slice_get, sum_by}
 use Rattle.std.proofs.lemmas.Bool.{ltb-false}
 use Rattle.std.proofs.lemmas.List.Elements.{All-head, All-tail}
@@ -30,7 +31,8 @@ times-odd q r = elim (is_same r q) as (λ b. is_odd (cond b 1 0) ≡ b) [ true �
 end-odd : (q : Place) (ps : List Place) (k : ℕ) → k < length ps → is_odd (times_at q (slice_get ps k)) ≡ is_same (get_or ps k nowhere) q
 end-odd q ps k within = ap (λ o. is_odd (times_at q o)) (slice_get-get_or ps k nowhere within) ∙ times-odd q (get_or ps k nowhere)
 
-ends-odd : (q : Place) (ps : List Place) → is_odd (ends_at q ps) ≡ differ (is_same (get_or ps 0 nowhere) q) (is_same (get_or ps (length ps - 1) nowhere) q)
+ends-odd : (q : Place) (ps : List Place) → is_odd (ends_at q ps)
+    ≡ differ (is_same (get_or ps 0 nowhere) q) (is_same (get_or ps (length ps - 1) nowhere) q)
 ends-odd q [] = sym (differ_itself (is_same nowhere q))
 ends-odd q (p ∷ ps) =
     odd-sum (times_at q (Some p)) (times_at q (last_of (p ∷ ps)))
@@ -63,24 +65,31 @@ polygon-even : (m : Map) (numbers : List ℕ) → HasEvenEnds m.arcs numbers →
 polygon-even m numbers even q =
     let total = named_ends m.arcs q numbers in
     let whole : total ≡ total / 2 + total / 2 = let h = even q in omega (arith, h) in
-    pass-agree (does_touch m q) (λ k. is_odd (ends_at q (get_or m.arcs k []))) numbers (λ i d within. sym (ends-odd q (get_or m.arcs (get_or numbers i d) [])))
+    pass-agree (does_touch m q) (λ k. is_odd (ends_at q (get_or m.arcs k []))) numbers (λ i d within.
+    sym (ends-odd q (get_or m.arcs (get_or numbers i d) [])))
     ∙ sym (sum-odd (λ k. ends_at q (get_or m.arcs k [])) numbers)
     ∙ odd-even total (total / 2) whole
 
-named-even : (m : Map) (polygons : List ℕ) → All (λ k. HasEvenEnds m.arcs (get_or m.polygons k [])) polygons → (q : Place) → pass_oddly (does_touch m q) (named_arcs m polygons) ≡ false
+named-even : (m : Map) (polygons : List ℕ) → All (λ k. HasEvenEnds m.arcs (get_or m.polygons k [])) polygons → (q : Place)
+    → pass_oddly (does_touch m q) (named_arcs m polygons) ≡ false
 named-even m [] even q = refl
 named-even m (k ∷ ks) even q =
     pass-append (does_touch m q) (get_or m.polygons k []) (named_arcs m ks)
-    ∙ ap (λ b. differ b (pass_oddly (does_touch m q) (named_arcs m ks))) (polygon-even m (get_or m.polygons k []) (All-head (λ i. HasEvenEnds m.arcs (get_or m.polygons i [])) k ks even) q)
+    ∙ ap (λ b. differ b (pass_oddly (does_touch m q) (named_arcs m ks)))
+    (polygon-even m (get_or m.polygons k []) (All-head (λ i. HasEvenEnds m.arcs (get_or m.polygons i [])) k ks even) q)
     ∙ named-even m ks (All-tail (λ i. HasEvenEnds m.arcs (get_or m.polygons i [])) k ks even) q
 
-pub even-at-start : (m : Map) (polygons : List ℕ) → IsMap m → All (λ k. k < length m.polygons) polygons → All (λ k. HasEvenEnds m.arcs (get_or m.polygons k [])) polygons → IsEven m (odd_arcs m polygons)
-even-at-start m polygons is known even q = sym (odd-cancelled m polygons (does_touch m q) is known (touches-none m q)) ∙ named-even m polygons even q
+pub even-at-start : (m : Map) (polygons : List ℕ) → IsMap m → All (λ k. k < length m.polygons) polygons
+    → All (λ k. HasEvenEnds m.arcs (get_or m.polygons k [])) polygons → IsEven m (odd_arcs m polygons)
+even-at-start m polygons is known even q = sym (odd-cancelled m polygons (does_touch m q) is known (touches-none m q))
+    ∙ named-even m polygons even q
 
 -- ---- crossings
 
-pub odd-crossed : (m : Map) (polygons : List ℕ) (p : Place) → IsMap m → All (λ k. k < length m.polygons) polygons → is_inside_of p m.arcs (odd_arcs m polygons) ≡ is_inside_of p m.arcs (named_arcs m polygons)
+pub odd-crossed : (m : Map) (polygons : List ℕ) (p : Place) → IsMap m → All (λ k. k < length m.polygons) polygons
+    → is_inside_of p m.arcs (odd_arcs m polygons) ≡ is_inside_of p m.arcs (named_arcs m polygons)
 odd-crossed m polygons p is known =
     inside-sum p m.arcs (odd_arcs m polygons)
-    ∙ sym (odd-cancelled m polygons (λ arc. is_list_crossed_oddly p (get_or m.arcs arc [])) is known (λ k none. short-crossed p (arc_at m k) (few-positions m k none)))
+    ∙ sym (odd-cancelled m polygons (λ arc. is_list_crossed_oddly p (get_or m.arcs arc [])) is known (λ k none.
+    short-crossed p (arc_at m k) (few-positions m k none)))
     ∙ sym (inside-sum p m.arcs (named_arcs m polygons))

@@ -20,15 +20,19 @@ odd-once m polygons = filter-once (is_odd_arc m (named_arcs m polygons)) (length
 pub border-closed : (m : Map) (polygons : List ℕ) (rings : List (List ℤ)) → IsBorder m polygons rings → All (IsClosed m) rings
 border-closed m polygons rings is = rings-closed m (odd_arcs m polygons) rings is
 
-pub border-used : (m : Map) (polygons : List ℕ) (rings : List (List ℤ)) → IsBorder m polygons rings → (k : ℕ) → Contains (arcs_used rings) k ↔ Contains (odd_arcs m polygons) k
+pub border-used : (m : Map) (polygons : List ℕ) (rings : List (List ℤ)) → IsBorder m polygons rings → (k : ℕ) → Contains (arcs_used rings) k
+    ↔ Contains (odd_arcs m polygons) k
 border-used m polygons rings is = used-odd m (odd_arcs m polygons) rings (odd-once m polygons) is
 
-pub border-once : (m : Map) (polygons : List ℕ) (rings : List (List ℤ)) → IsBorder m polygons rings → AllPairs (λ j k. j ≢ k) (arcs_used rings)
+pub border-once : (m : Map) (polygons : List ℕ) (rings : List (List ℤ)) → IsBorder m polygons rings
+    → AllPairs (λ j k. j ≢ k) (arcs_used rings)
 border-once m polygons rings is = used-once m (odd_arcs m polygons) rings (odd-once m polygons) is
 
-pub border-crossed : (m : Map) (polygons : List ℕ) (rings : List (List ℤ)) → IsMap m → All (λ k. k < length m.polygons) polygons → IsBorder m polygons rings → (p : Place) → is_inside_of p m.arcs (arcs_used rings) ≡ is_inside_of p m.arcs (named_arcs m polygons)
+pub border-crossed : (m : Map) (polygons : List ℕ) (rings : List (List ℤ)) → IsMap m → All (λ k. k < length m.polygons) polygons
+    → IsBorder m polygons rings → (p : Place) → is_inside_of p m.arcs (arcs_used rings) ≡ is_inside_of p m.arcs (named_arcs m polygons)
 border-crossed m polygons rings map_is known is p =
     inside-sum p m.arcs (arcs_used rings)
-    ∙ pass-permutation (λ arc. is_list_crossed_oddly p (get_or m.arcs arc [])) (odd_arcs m polygons) (arcs_used rings) (rings-used m (odd_arcs m polygons) rings (odd-once m polygons) is)
+    ∙ pass-permutation (λ arc. is_list_crossed_oddly p (get_or m.arcs arc [])) (odd_arcs m polygons) (arcs_used rings)
+    (rings-used m (odd_arcs m polygons) rings (odd-once m polygons) is)
     ∙ sym (inside-sum p m.arcs (odd_arcs m polygons))
     ∙ odd-crossed m polygons p map_is known

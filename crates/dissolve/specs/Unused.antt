@@ -1,5 +1,6 @@
 -- The odd arcs that no ring has yet, as marks, and those at each position.
-use Rattle.std.specs.Prelude.{◌≡◌, ◌<◌, ◌≤◌, ◌∷◌, ◌++◌, [], if◌then◌else◌, ℕ, Bool, true, false, List, All, AllPairs, Contains, filter, get_or, length, map, set}
+use Rattle.std.specs.Prelude.{◌≡◌, ◌<◌, ◌≤◌, ◌∷◌, ◌++◌, [], if◌then◌else◌, ℕ, Bool, true, false, List, All, AllPairs, Contains, filter}
+use Rattle.std.specs.Prelude.{get_or, length, map, set}
 use Rattle.std.specs.List.{range_with_len}
 use Rattle.grid_exact.specs.Geometry.{Place}
 use Rattle.arc_map.specs.Map.{Map}

@@ -1,10 +1,12 @@
 //! The odd arcs that no ring has yet.
-ghost use Rattle.std.specs.Prelude.{◌≡◌, ◌<◌, Some, ℕ, false, IfOk, IfSome, OnOk, MatchOption, All, Contains, get_or, length, position};
+ghost use Rattle.std.specs.Prelude.{◌≡◌, ◌<◌, Some, ℕ, false, IfOk, IfSome, OnOk, MatchOption, All};
+ghost use Rattle.std.specs.Prelude.{Contains, get_or, length, position};
 ghost use Rattle.grid_exact.specs.Geometry.{Place};
 ghost use Rattle.arc_map.specs.Map.{Map};
 ghost use Rattle.arc_map.specs.Ends.{is_same};
 ghost use Rattle.dissolve.specs.Border.{EndsAt, IsNext, without};
-ghost use Rattle.dissolve.specs.Unused.{AreUnmarked, AreUnused, IsAddedAt, IsPopped, IsTaken, added_at, arcs_at, unused_in};
+ghost use Rattle.dissolve.specs.Unused.{AreUnmarked, AreUnused, IsAddedAt, IsPopped, IsTaken};
+ghost use Rattle.dissolve.specs.Unused.{added_at, arcs_at, unused_in};
 ghost use Rattle.dissolve.specs.Walk.{reference};
 
 use crate::step::{Step, begins_at, first_position, last_position};
@@ -14,8 +16,8 @@ use indexmap::IndexSet;
 use smallvec::SmallVec;
 use std::alloc::{AllocError, Global};
 
-// The arcs that are left, as marks, and for each position the arcs with an end there, falling. Of these
-// the last are dropped once they are used, so that each is looked at once.
+// The arcs that are left, as marks, and for each position the arcs with an end there, falling. Of
+// these the last are dropped once they are used, so that each is looked at once.
 #[derive(Drop)]
 pub(crate) struct Unused {
     marks: Vec<bool>,
@@ -103,8 +105,9 @@ impl Unused {
         self.marks[arc as usize] = false;
     }
 
-    // The step with which a ring goes on from the position: by the least arc that is left with an end
-    // there, forwards if it begins there. The arc is taken away. None where no arc is left there.
+    // The step with which a ring goes on from the position: by the least arc that is left with an
+    // end there, forwards if it begins there. The arc is taken away. None where no arc is left
+    // there.
     pub fn next(&mut self, map: &ArcMap, at: Point) -> Option<Step>
         requires { AreUnused map.now self.old }
         ensures next { MatchOption result

@@ -1,5 +1,6 @@
 //! The border of polygons, ring after ring.
-ghost use Rattle.std.specs.Prelude.{◌≡◌, ◌≢◌, ◌+◌, ◌<◌, ◌≤◌, ◌↔◌, [], ℕ, List, All, AllPairs, Contains, IfOk, OnOk, get_or, length};
+ghost use Rattle.std.specs.Prelude.{◌≡◌, ◌≢◌, ◌+◌, ◌<◌, ◌≤◌, ◌↔◌, [], ℕ, List, All, AllPairs};
+ghost use Rattle.std.specs.Prelude.{Contains, IfOk, OnOk, get_or, length};
 ghost use Rattle.grid_exact.specs.Geometry.{Place};
 ghost use Rattle.arc_map.specs.Arcs.{is_inside_of};
 ghost use Rattle.topo_reader.specs.Ends.{HasEvenEnds};
@@ -18,12 +19,12 @@ use std::alloc::{AllocError, Global};
 
 /// The border of the chosen polygons, given by their numbers, as closed lines.
 ///
-/// The odd arcs are those with an edge that the chosen polygons name an odd number of times in sum. A
-/// ring begins with the least odd arc not used yet, forwards. While it is not back at its first
-/// position, it goes on with the least odd arc not used yet that has an end at the position reached:
-/// forwards if the arc begins there, else backwards. Rings are made until no odd arc is left, so each
-/// is used once. From every point the edges of the rings are crossed as often, modulo 2, as those of
-/// the chosen polygons in sum. The only error is want of memory.
+/// The odd arcs are those with an edge that the chosen polygons name an odd number of times in sum.
+/// A ring begins with the least odd arc not used yet, forwards. While it is not back at its first
+/// position, it goes on with the least odd arc not used yet that has an end at the position
+/// reached: forwards if the arc begins there, else backwards. Rings are made until no odd arc is
+/// left, so each is used once. From every point the edges of the rings are crossed as often, modulo
+/// 2, as those of the chosen polygons in sum. The only error is want of memory.
 pub fn border(alloc: Global, map: &ArcMap, chosen: &[u32]) -> Result<Rings, NoMemory>
     requires known { All (λ k. k < length map.now.polygons) chosen.now }
     requires even { All (λ k. HasEvenEnds map.now.arcs (get_or map.now.polygons k [])) chosen.now }

@@ -1,4 +1,5 @@
-//! Whether the run between two vertices of a chain stays within the bound of the segment between them.
+//! Whether the run between two vertices of a chain stays within the bound of the segment between
+//! them.
 #![tactic(auto)]
 
 mod run;

@@ -16,8 +16,12 @@ use Rattle.error_cone.proofs.Near.{meets_by_within}
 pub record IsNarrowed (e : ℤ) (way old new : Way) : Type 0 where
   pub same : (d : Way) → pos 0 ≤ℤ d.across → IsUnder new d ↔ (IsUnder old d × IsUnderSquare e way d)
 
-pub narrowed : (e : ℤ) (way old corner new : Way) → ((d : Way) → pos 0 ≤ℤ d.across → IsUnder new d ↔ (IsUnder old d × IsUnder corner d)) → ((d : Way) → pos 0 ≤ℤ d.across → IsUnder corner d ↔ IsUnderSquare e way d) → IsNarrowed e way old new
-narrowed e way old corner new flat square = record { same = λ d low. (λ h. let both = (flat d low).0 h in (both.0, (square d low).0 both.1), λ both. (flat d low).1 (both.0, (square d low).1 both.1)) }
+pub narrowed : (e : ℤ) (way old corner new : Way) → ((d : Way) → pos 0 ≤ℤ d.across → IsUnder new d ↔ (IsUnder old d × IsUnder corner d))
+    → ((d : Way) → pos 0 ≤ℤ d.across → IsUnder corner d ↔ IsUnderSquare e way d) → IsNarrowed e way old new
+narrowed e way old corner new flat square = record {
+  same = λ d low.
+      (λ h. let both = (flat d low).0 h in (both.0, (square d low).0 both.1), λ both. (flat d low).1 (both.0, (square d low).1 both.1));
+}
 
 -- both limits are narrowed by the square about p, which is past the bound
 pub record IsTaken (c : Cone) (p : Place) (above below : Way) : Type 0 where
@@ -25,7 +29,8 @@ pub record IsTaken (c : Cone) (p : Place) (above below : Way) : Type 0 where
   pub above_is : IsNarrowed c.bound (way_to c p) c.above above
   pub below_is : IsNarrowed c.bound (mirrored (way_to c p)) c.below below
 
-pub taken : (c : Cone) (p : Place) (way above below : Way) → way ≡ way_to c p → c.bound <ℤ way.across → IsNarrowed c.bound way c.above above → IsNarrowed c.bound (mirrored way) c.below below → IsTaken c p above below
+pub taken : (c : Cone) (p : Place) (way above below : Way) → way ≡ way_to c p → c.bound <ℤ way.across → IsNarrowed c.bound way c.above above
+    → IsNarrowed c.bound (mirrored way) c.below below → IsTaken c p above below
 taken c p way above below is past up down =
     record {
       past = subst (λ (w : Way). c.bound <ℤ w.across) is past;
@@ -38,13 +43,19 @@ pub record AreLimits (c : Cone) (above below : Way) (v : Place) : Type 0 where
   pub above_lets : IsUnder above (way_to c v)
   pub below_lets : IsUnder below (mirrored (way_to c v))
 
-pub lets_taken : (c : Cone) (p v : Place) (above below : Way) → IsTaken c p above below → IsPast c v → AreLimits c above below v ↔ (Lets c v × Passes c p v)
+pub lets_taken : (c : Cone) (p v : Place) (above below : Way) → IsTaken c p above below → IsPast c v → AreLimits c above below v
+    ↔ (Lets c v × Passes c p v)
 lets_taken c p v above below h past =
     let low = (along_forward c.frame c.rising c.origin v past).across in
     let up = h.above_is.same (way_to c v) low in
     let down = h.below_is.same (mirrored (way_to c v)) low in (
-      λ lim. let a = up.0 lim.above_lets in let b = down.0 lim.below_lets in (record { above = a.0; below = b.0 }, λ far. record { not_above = a.1; not_below = b.1 }),
-      λ both. let met = both.1 h.past in record { above_lets = up.1 (both.0.above, met.not_above); below_lets = down.1 (both.0.below, met.not_below) },
+      λ lim. let a = up.0 lim.above_lets in let b = down.0 lim.below_lets in
+          (record { above = a.0; below = b.0 }, λ far. record { not_above = a.1; not_below = b.1 }),
+      λ both. let met = both.1 h.past in record {
+        above_lets = up.1 (both.0.above, met.not_above);
+        below_lets =
+            down.1 (both.0.below, met.not_below);
+      },
     )
 
 pub passes_near : (c : Cone) (p v : Place) → pos 0 ≤ℤ c.bound → IsWithin c.origin v p c.bound → Passes c p v
@@ -61,7 +72,8 @@ shut_iff c =
     let down = forward_by c.below c.below_forward in
     let there = place_by c.frame c.rising c.origin c.above in
     let way = way_of-place_by c.frame c.rising c.origin c.above in (
-      λ shut v past lets. let is_open = open_by c.above c.below (way_to c v) up down (along_forward c.frame c.rising c.origin v past) lets.above lets.below in omega (arith, sums, is_open, shut),
+      λ shut v past lets. let is_open = open_by c.above c.below (way_to c v) up down (along_forward c.frame c.rising c.origin v past)
+          lets.above lets.below in omega (arith, sums, is_open, shut),
       λ none.
           elim (at_most_or_above (pos 0 -ℤ c.above.across *ℤ c.below.up) (c.above.up *ℤ c.below.across)) [
             | inl is_open ↦

@@ -40,7 +40,8 @@ times_at_most d y m high low =
           let size : pos (unsigned_abs d) ≡ pos 0 -ℤ d = omega (arith, fits) in
           let scaled : pos (unsigned_abs d) *ℤ m ≡ (pos 0 -ℤ d) *ℤ m = ap (λ z. z *ℤ m) size in
           let e = identity_3 d y m (λ d y m. (Whole (pos 0) ⊖ d) ⊗ (m ⊕ y) ≈ (Whole (pos 0) ⊖ d) ⊗ m ⊖ d ⊗ y) refl in
-          let p : pos 0 ≤ℤ ((pos 0 -ℤ d) *ℤ (m +ℤ y)) = times_nonnegative (pos 0 -ℤ d) (m +ℤ y) (omega (arith, sums)) (omega (arith, sums)) in
+          let p : pos 0 ≤ℤ ((pos 0 -ℤ d) *ℤ (m +ℤ y)) = times_nonnegative (pos 0 -ℤ d) (m +ℤ y) (omega (arith, sums)) (omega (arith, sums))
+          in
           omega (arith, sums, e, scaled)
     ]
 
@@ -61,12 +62,15 @@ under_by_near n s e a d one some near =
     let up : (y *ℤ y) ≤ℤ (m *ℤ m) = omega (arith, sums, area, near) in
     let x_high = root_at_most x m wide across in let x_low = root_at_least x m wide across in
     let y_high = root_at_most y m wide up in let y_low = root_at_least y m wide up in
-    let p : (d.across *ℤ (pos 0 -ℤ (n *ℤ a.up -ℤ s *ℤ d.up))) ≤ℤ (pos (unsigned_abs d.across) *ℤ (n *ℤ e)) = times_at_most d.across (pos 0 -ℤ y) m (omega (arith, sums, y_low)) (omega (arith, sums, y_high)) in
+    let p : (d.across *ℤ (pos 0 -ℤ (n *ℤ a.up -ℤ s *ℤ d.up))) ≤ℤ (pos (unsigned_abs d.across) *ℤ (n *ℤ e)) =
+    times_at_most d.across (pos 0 -ℤ y) m (omega (arith, sums, y_low)) (omega (arith, sums, y_high)) in
     let q : (d.up *ℤ (n *ℤ a.across -ℤ s *ℤ d.across)) ≤ℤ (pos (unsigned_abs d.up) *ℤ (n *ℤ e)) = times_at_most d.up x m x_high x_low in
     let size : length_of d ≡ pos (unsigned_abs d.across) +ℤ pos (unsigned_abs d.up) = omega (arith, fits) in
     let scaled = ap (λ z. e *ℤ z) size in
     let v = Variable in
-    let same = by_identity (n ∷ s ∷ e ∷ a.across ∷ a.up ∷ d.across ∷ d.up ∷ pos (unsigned_abs d.across) ∷ pos (unsigned_abs d.up) ∷ []) (v 0 ⊗ (v 5 ⊗ v 4 ⊕ v 2 ⊗ (v 7 ⊕ v 8) ⊖ v 6 ⊗ v 3) ≈ (v 7 ⊗ (v 0 ⊗ v 2) ⊖ v 5 ⊗ (Whole (pos 0) ⊖ (v 0 ⊗ v 4 ⊖ v 1 ⊗ v 6))) ⊕ (v 8 ⊗ (v 0 ⊗ v 2) ⊖ v 6 ⊗ (v 0 ⊗ v 3 ⊖ v 1 ⊗ v 5))) refl in
+    let same = by_identity (n ∷ s ∷ e ∷ a.across ∷ a.up ∷ d.across ∷ d.up ∷ pos (unsigned_abs d.across) ∷ pos (unsigned_abs d.up) ∷ [])
+    (v 0 ⊗ (v 5 ⊗ v 4 ⊕ v 2 ⊗ (v 7 ⊕ v 8) ⊖ v 6 ⊗ v 3) ≈ (v 7 ⊗ (v 0 ⊗ v 2) ⊖ v 5 ⊗ (Whole (pos 0) ⊖ (v 0 ⊗ v 4 ⊖ v 1 ⊗ v 6)))
+    ⊕ (v 8 ⊗ (v 0 ⊗ v 2) ⊖ v 6 ⊗ (v 0 ⊗ v 3 ⊖ v 1 ⊗ v 5))) refl in
     let gap = d.across *ℤ a.up +ℤ e *ℤ (pos (unsigned_abs d.across) +ℤ pos (unsigned_abs d.up)) -ℤ d.up *ℤ a.across in
     let whole : pos 0 ≤ℤ (n *ℤ gap) = omega (arith, sums, same, p, q) in
     let left : pos 0 ≤ℤ gap = nonnegative_from_times n gap (omega (arith, sums)) whole in
@@ -74,13 +78,16 @@ under_by_near n s e a d one some near =
 
 near_mirrored : (n s e : ℤ) (a d : Way) → IsNearWay n s e a d → IsNearWay n s e (mirrored a) (mirrored d)
 near_mirrored n s e a d near =
-    let same = identity_4 n s a.up d.up (λ n s u m. (n ⊗ (Whole (pos 0) ⊖ u) ⊖ s ⊗ (Whole (pos 0) ⊖ m)) ⊗ (n ⊗ (Whole (pos 0) ⊖ u) ⊖ s ⊗ (Whole (pos 0) ⊖ m)) ≈ (n ⊗ u ⊖ s ⊗ m) ⊗ (n ⊗ u ⊖ s ⊗ m)) refl in
+    let same = identity_4 n s a.up d.up (λ n s u m. (n ⊗ (Whole (pos 0) ⊖ u) ⊖ s ⊗ (Whole (pos 0) ⊖ m))
+    ⊗ (n ⊗ (Whole (pos 0) ⊖ u) ⊖ s ⊗ (Whole (pos 0) ⊖ m)) ≈ (n ⊗ u ⊖ s ⊗ m) ⊗ (n ⊗ u ⊖ s ⊗ m)) refl in
     omega (arith, sums, same, near)
 
 turned_round : (n s o p v : ℤ) → square_of (n *ℤ (o -ℤ p) -ℤ s *ℤ (o -ℤ v)) ≡ square_of (n *ℤ (p -ℤ o) -ℤ s *ℤ (v -ℤ o))
-turned_round n s o p v = identity_5 n s o p v (λ n s o p v. (n ⊗ (o ⊖ p) ⊖ s ⊗ (o ⊖ v)) ⊗ (n ⊗ (o ⊖ p) ⊖ s ⊗ (o ⊖ v)) ≈ (n ⊗ (p ⊖ o) ⊖ s ⊗ (v ⊖ o)) ⊗ (n ⊗ (p ⊖ o) ⊖ s ⊗ (v ⊖ o))) refl
+turned_round n s o p v = identity_5 n s o p v (λ n s o p v. (n ⊗ (o ⊖ p) ⊖ s ⊗ (o ⊖ v)) ⊗ (n ⊗ (o ⊖ p) ⊖ s ⊗ (o ⊖ v)) ≈
+    (n ⊗ (p ⊖ o) ⊖ s ⊗ (v ⊖ o)) ⊗ (n ⊗ (p ⊖ o) ⊖ s ⊗ (v ⊖ o))) refl
 
-near_seen : (frame : Frame) (rising : Bool) (o v p : Place) (e : ℤ) → (h : IsWithin o v p e) → IsNearWay h.denominator h.numerator e (way_of frame rising o p) (way_of frame rising o v)
+near_seen : (frame : Frame) (rising : Bool) (o v p : Place) (e : ℤ) → (h : IsWithin o v p e)
+    → IsNearWay h.denominator h.numerator e (way_of frame rising o p) (way_of frame rising o v)
 near_seen Plain true o v p e h = h.near
 near_seen Plain false o v p e h =
     let near = h.near in
@@ -92,10 +99,12 @@ near_seen Turned false o v p e h =
     let f = turned_round h.denominator h.numerator o.x p.x v.x in let g = turned_round h.denominator h.numerator o.y p.y v.y in
     omega (arith, sums, near, f, g)
 
-pub meets_by_within : (frame : Frame) (rising : Bool) (o v p : Place) (e : ℤ) → pos 0 ≤ℤ e → IsWithin o v p e → MeetsSquare e (way_of frame rising o p) (way_of frame rising o v)
+pub meets_by_within : (frame : Frame) (rising : Bool) (o v p : Place) (e : ℤ) → pos 0 ≤ℤ e → IsWithin o v p e
+    → MeetsSquare e (way_of frame rising o p) (way_of frame rising o v)
 meets_by_within frame rising o v p e some h =
     let near = near_seen frame rising o v p e h in
     record {
       not_above = under_by_near h.denominator h.numerator e (way_of frame rising o p) (way_of frame rising o v) h.whole some near;
-      not_below = under_by_near h.denominator h.numerator e (mirrored (way_of frame rising o p)) (mirrored (way_of frame rising o v)) h.whole some (near_mirrored h.denominator h.numerator e (way_of frame rising o p) (way_of frame rising o v) near);
+      not_below = under_by_near h.denominator h.numerator e (mirrored (way_of frame rising o p)) (mirrored (way_of frame rising o v))
+          h.whole some (near_mirrored h.denominator h.numerator e (way_of frame rising o p) (way_of frame rising o v) near);
     }

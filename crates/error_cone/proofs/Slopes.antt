@@ -1,5 +1,6 @@
 -- Ways that go forward, which of them are under a limit, and what two limits leave open.
-use Rattle.std.proofs.Common.{◌≡◌, ◌↔◌, inl, inr, Bool, true, false, IsTrue, ℤ, pos, ◌+ℤ◌, ◌-ℤ◌, ◌*ℤ◌, ◌≤ℤ◌, ◌<ℤ◌, refl, sym, ap, subst, ◌∙◌, arith}
+use Rattle.std.proofs.Common.{◌≡◌, ◌↔◌, inl, inr, Bool, true, false, IsTrue, ℤ, pos, ◌+ℤ◌, ◌-ℤ◌, ◌*ℤ◌, ◌≤ℤ◌, ◌<ℤ◌, refl, sym, ap, subst}
+use Rattle.std.proofs.Common.{◌∙◌, arith}
 use lib.IntN.{*ℤ_comm, *ℤ-zero}
 use Rattle.grid_exact.specs.Geometry.{Place, IsBefore, turned}
 use Rattle.grid_exact.specs.Geometry.IsBefore.{Left, Below}
@@ -7,7 +8,8 @@ use Rattle.grid_exact.specs.Crossing.{is_before}
 use Rattle.grid_exact.specs.declared.frame.Frame.{Frame}
 use Rattle.grid_exact.specs.declared.frame.Frame.TheVariants.{Plain, Turned}
 use Rattle.grid_exact.proofs.WholeLaws.{sums, *ℤ-one}
-use Rattle.grid_exact.proofs.Signs.{Negative, Zero, Positive, sign_of, at_most_or_above, times_nonnegative, times_positive, nonnegative_from_times}
+use Rattle.grid_exact.proofs.Signs.{Negative, Zero, Positive, sign_of, at_most_or_above, times_nonnegative, times_positive}
+use Rattle.grid_exact.proofs.Signs.{nonnegative_from_times}
 use Rattle.grid_exact.proofs.Orders.{tested, Yes, No, no_times}
 use Rattle.grid_exact.proofs.Polynomial.{Whole, ◌⊕◌, ◌⊖◌, ◌⊗◌, ◌≈◌, identity_2, identity_6}
 use Rattle.chain_side.specs.Along.{IsAlong}
@@ -34,7 +36,10 @@ forward_before w (Left h) = record { across = omega (arith, sums); up = λ e. ab
 forward_before w (Below e h) = record { across = omega (arith, sums); up = λ f. h }
 
 pub forward_by : (w : Way) → IsTrue (is_forward w) → GoesForward w
-forward_by w h = elim (tested start_of_all (end_of_way w)) [ Yes e k ↦ forward_before w k | No e k ↦ absurd (denied (is_before start_of_all (end_of_way w)) e h) ]
+forward_by w h = elim (tested start_of_all (end_of_way w)) [
+  | Yes e k ↦ forward_before w k
+  | No e k ↦ absurd (denied (is_before start_of_all (end_of_way w)) e h)
+]
 
 step_forward : (a b : Place) → IsBefore a b → GoesForward (step_of Plain a b)
 step_forward a b (Left h) = record { across = omega (arith, sums); up = λ e. absurd (omega (arith, sums)) }
@@ -82,7 +87,8 @@ way_of-place_by Turned true o d = same_way _ d (omega (arith, sums)) (omega (ari
 way_of-place_by Turned false o d = same_way _ d (omega (arith, sums)) (omega (arith, sums))
 
 pub along_by : (frame : Frame) (rising : Bool) (o : Place) (d : Way) → GoesForward d → IsAlong frame rising o (place_by frame rising o d)
-along_by frame rising o d h = forward_along frame rising o (place_by frame rising o d) (subst GoesForward (sym (way_of-place_by frame rising o d)) h)
+along_by frame rising o d h = forward_along frame rising o (place_by frame rising o d)
+    (subst GoesForward (sym (way_of-place_by frame rising o d)) h)
 
 -- ---- limits
 
@@ -92,7 +98,8 @@ straight_up hx hu cx cu low e up under =
     elim (sign_of hx) [
       | Negative n ↦ absurd (omega (arith, sums))
       | Zero z ↦ z
-      | Positive p ↦ let r : pos 0 <ℤ (cu *ℤ hx) = times_positive cu hx up p in let z : cx *ℤ hu ≡ pos 0 = no_times cx hu e in absurd (omega (arith, sums))
+      | Positive p ↦ let r : pos 0 <ℤ (cu *ℤ hx) = times_positive cu hx up p in let z : cx *ℤ hu ≡ pos 0 = no_times cx hu e in
+          absurd (omega (arith, sums))
     ]
 
 under_straight_up : (hx hu dx du : ℤ) → hx ≡ pos 0 → pos 0 <ℤ hu → pos 0 ≤ℤ dx → (du *ℤ hx) ≤ℤ (dx *ℤ hu)
@@ -101,9 +108,11 @@ under_straight_up hx hu dx du e up low =
     let p : pos 0 ≤ℤ (dx *ℤ hu) = times_nonnegative dx hu low (omega (arith, sums)) in
     omega (arith, sums)
 
-under_across : (hx hu cx cu dx du : ℤ) → pos 0 ≤ℤ hx → pos 0 <ℤ cx → pos 0 ≤ℤ dx → (cu *ℤ hx) ≤ℤ (cx *ℤ hu) → (du *ℤ cx) ≤ℤ (dx *ℤ cu) → (du *ℤ hx) ≤ℤ (dx *ℤ hu)
+under_across : (hx hu cx cu dx du : ℤ) → pos 0 ≤ℤ hx → pos 0 <ℤ cx → pos 0 ≤ℤ dx → (cu *ℤ hx) ≤ℤ (cx *ℤ hu) → (du *ℤ cx) ≤ℤ (dx *ℤ cu)
+    → (du *ℤ hx) ≤ℤ (dx *ℤ hu)
 under_across hx hu cx cu dx du h c d hc cd =
-    let e = identity_6 hx hu cx cu dx du (λ hx hu cx cu dx du. cx ⊗ (dx ⊗ hu ⊖ du ⊗ hx) ≈ dx ⊗ (cx ⊗ hu ⊖ cu ⊗ hx) ⊕ hx ⊗ (dx ⊗ cu ⊖ du ⊗ cx)) refl in
+    let e = identity_6 hx hu cx cu dx du (λ hx hu cx cu dx du. cx ⊗ (dx ⊗ hu ⊖ du ⊗ hx) ≈ dx ⊗ (cx ⊗ hu ⊖ cu ⊗ hx) ⊕ hx
+    ⊗ (dx ⊗ cu ⊖ du ⊗ cx)) refl in
     let p : pos 0 ≤ℤ (dx *ℤ (cx *ℤ hu -ℤ cu *ℤ hx)) = times_nonnegative dx (cx *ℤ hu -ℤ cu *ℤ hx) d (omega (arith, sums)) in
     let q : pos 0 ≤ℤ (hx *ℤ (dx *ℤ cu -ℤ du *ℤ cx)) = times_nonnegative hx (dx *ℤ cu -ℤ du *ℤ cx) h (omega (arith, sums)) in
     let whole : pos 0 ≤ℤ (cx *ℤ (dx *ℤ hu -ℤ du *ℤ hx)) = omega (arith, sums, e) in
@@ -116,7 +125,8 @@ under_then h c d fh fc dx hc cd =
     let low = fc.across in
     elim (sign_of c.across) [
       | Negative n ↦ absurd (omega (arith, sums))
-      | Zero z ↦ let e = straight_up h.across h.up c.across c.up fh.across z (fc.up z) hc in under_straight_up h.across h.up d.across d.up e (fh.up e) dx
+      | Zero z ↦ let e = straight_up h.across h.up c.across c.up fh.across z (fc.up z) hc in
+          under_straight_up h.across h.up d.across d.up e (fh.up e) dx
       | Positive p ↦ under_across h.across h.up c.across c.up d.across d.up fh.across p dx hc cd
     ]
 
@@ -138,11 +148,17 @@ pub under_itself : (h : Way) → IsUnder h h
 under_itself h = omega (arith, sums, *ℤ_comm h.up h.across)
 
 -- the way under both limits is under one of them, which is under the other
-pub takes_limit : (a b : Way) → IsTrue (is_forward a) → IsTrue (is_forward b) → IsUnder a b → (d : Way) → pos 0 ≤ℤ d.across → IsUnder b d ↔ (IsUnder a d × IsUnder b d)
+pub takes_limit : (a b : Way) → IsTrue (is_forward a) → IsTrue (is_forward b) → IsUnder a b → (d : Way) → pos 0 ≤ℤ d.across → IsUnder b d
+    ↔ (IsUnder a d × IsUnder b d)
 takes_limit a b fa fb under d dx = (λ bd. (under_then a b d (forward_by a fa) (forward_by b fb) dx under bd, bd), λ both. both.1)
 
-pub keeps_limit : (a b : Way) → IsTrue (is_forward a) → IsTrue (is_forward b) → ¬ (IsUnder a b) → (d : Way) → pos 0 ≤ℤ d.across → IsUnder a d ↔ (IsUnder a d × IsUnder b d)
-keeps_limit a b fa fb over d dx = (λ ad. (ad, under_then b a d (forward_by b fb) (forward_by a fa) dx (under_other a b over) ad), λ both. both.0)
+pub keeps_limit : (a b : Way) → IsTrue (is_forward a) → IsTrue (is_forward b) → ¬ (IsUnder a b) → (d : Way) → pos 0 ≤ℤ d.across
+    → IsUnder a d ↔ (IsUnder a d × IsUnder b d)
+keeps_limit a b fa fb over d dx = (
+  λ ad. (ad, under_then b a d (forward_by b fb) (forward_by a fa) dx (under_other a b over) ad),
+  λ both.
+      both.0,
+)
 
 -- ---- two limits, the second of them upside down
 
@@ -150,10 +166,13 @@ keeps_limit a b fa fb over d dx = (λ ad. (ad, under_then b a d (forward_by b fb
 abbrev pub IsOpen : Way → Way → Type 0
 IsOpen h m = (pos 0 -ℤ h.across *ℤ m.up) ≤ℤ (h.up *ℤ m.across)
 
-open_across : (hx hu mx mu dx du : ℤ) → pos 0 ≤ℤ hx → pos 0 ≤ℤ mx → pos 0 <ℤ dx → (du *ℤ hx) ≤ℤ (dx *ℤ hu) → ((pos 0 -ℤ du) *ℤ mx) ≤ℤ (dx *ℤ mu) → (pos 0 -ℤ hx *ℤ mu) ≤ℤ (hu *ℤ mx)
+open_across : (hx hu mx mu dx du : ℤ) → pos 0 ≤ℤ hx → pos 0 ≤ℤ mx → pos 0 <ℤ dx → (du *ℤ hx) ≤ℤ (dx *ℤ hu)
+    → ((pos 0 -ℤ du) *ℤ mx) ≤ℤ (dx *ℤ mu) → (pos 0 -ℤ hx *ℤ mu) ≤ℤ (hu *ℤ mx)
 open_across hx hu mx mu dx du h m d hd md =
-    let e = identity_6 hx hu mx mu dx du (λ hx hu mx mu dx du. dx ⊗ (hx ⊗ mu ⊕ hu ⊗ mx) ≈ hx ⊗ (dx ⊗ mu ⊖ (Whole (pos 0) ⊖ du) ⊗ mx) ⊕ mx ⊗ (dx ⊗ hu ⊖ du ⊗ hx)) refl in
-    let p : pos 0 ≤ℤ (hx *ℤ (dx *ℤ mu -ℤ (pos 0 -ℤ du) *ℤ mx)) = times_nonnegative hx (dx *ℤ mu -ℤ (pos 0 -ℤ du) *ℤ mx) h (omega (arith, sums)) in
+    let e = identity_6 hx hu mx mu dx du (λ hx hu mx mu dx du. dx ⊗ (hx ⊗ mu ⊕ hu ⊗ mx) ≈ hx ⊗ (dx ⊗ mu ⊖ (Whole (pos 0) ⊖ du) ⊗ mx) ⊕ mx
+    ⊗ (dx ⊗ hu ⊖ du ⊗ hx)) refl in
+    let p : pos 0 ≤ℤ (hx *ℤ (dx *ℤ mu -ℤ (pos 0 -ℤ du) *ℤ mx)) =
+    times_nonnegative hx (dx *ℤ mu -ℤ (pos 0 -ℤ du) *ℤ mx) h (omega (arith, sums)) in
     let q : pos 0 ≤ℤ (mx *ℤ (dx *ℤ hu -ℤ du *ℤ hx)) = times_nonnegative mx (dx *ℤ hu -ℤ du *ℤ hx) m (omega (arith, sums)) in
     let whole : pos 0 ≤ℤ (dx *ℤ (hx *ℤ mu +ℤ hu *ℤ mx)) = omega (arith, sums, e) in
     let left : pos 0 ≤ℤ (hx *ℤ mu +ℤ hu *ℤ mx) = nonnegative_from_times dx (hx *ℤ mu +ℤ hu *ℤ mx) d whole in
@@ -170,7 +189,8 @@ open_by h m d fh fm fd hd md =
     let low = fd.across in
     elim (sign_of d.across) [
       | Negative n ↦ absurd (omega (arith, sums))
-      | Zero z ↦ let e = straight_up h.across h.up d.across d.up fh.across z (fd.up z) hd in open_straight_up h.across h.up m.across m.up e (fh.up e) fm.across
+      | Zero z ↦ let e = straight_up h.across h.up d.across d.up fh.across z (fd.up z) hd in
+          open_straight_up h.across h.up m.across m.up e (fh.up e) fm.across
       | Positive p ↦ open_across h.across h.up m.across m.up d.across d.up fh.across fm.across p hd md
     ]
 

@@ -14,7 +14,8 @@ length_falling : (d : Way) → pos 0 ≤ℤ d.across → d.up ≤ℤ pos 0 → l
 length_falling d across up = omega (arith, fits)
 
 -- the nearer upper corner, where it is not below the start
-pub near_corner : (e : ℤ) (a d : Way) → pos 0 ≤ℤ e → e <ℤ a.across → pos 0 ≤ℤ (a.up +ℤ e) → pos 0 ≤ℤ d.across → IsUnder (record { across = a.across -ℤ e; up = a.up +ℤ e }) d ↔ IsUnderSquare e a d
+pub near_corner : (e : ℤ) (a d : Way) → pos 0 ≤ℤ e → e <ℤ a.across → pos 0 ≤ℤ (a.up +ℤ e) → pos 0 ≤ℤ d.across
+    → IsUnder (record { across = a.across -ℤ e; up = a.up +ℤ e }) d ↔ IsUnderSquare e a d
 near_corner e a d some past high low =
     elim (at_most_or_above (pos 0) d.up) [
       | inl rising ↦
@@ -33,7 +34,8 @@ near_corner e a d some past high low =
     ]
 
 -- the farther upper corner, where it is below the start
-pub far_corner : (e : ℤ) (a d : Way) → pos 0 ≤ℤ e → e <ℤ a.across → (a.up +ℤ e) <ℤ pos 0 → pos 0 ≤ℤ d.across → IsUnder (record { across = a.across +ℤ e; up = a.up +ℤ e }) d ↔ IsUnderSquare e a d
+pub far_corner : (e : ℤ) (a d : Way) → pos 0 ≤ℤ e → e <ℤ a.across → (a.up +ℤ e) <ℤ pos 0 → pos 0 ≤ℤ d.across
+    → IsUnder (record { across = a.across +ℤ e; up = a.up +ℤ e }) d ↔ IsUnderSquare e a d
 far_corner e a d some past deep low =
     elim (at_most_or_above d.up (pos 0)) [
       | inl falling ↦

@@ -27,7 +27,7 @@ pub record Lets (c : Cone) (v : Place) : Type 0 where
   pub above : IsUnder c.above (way_to c v)
   pub below : IsUnder c.below (mirrored (way_to c v))
 
--- the line from the start through v meets the square of all that is at most the bound off p on both axes, unless p itself is no further across
--- from the start
+-- the line from the start through v meets the square of all that is at most the bound off p on both axes, unless p itself is no further
+-- across from the start
 abbrev pub Passes : Cone → Place → Place → Type 0
 Passes c p v = c.bound <ℤ (way_to c p).across → MeetsSquare c.bound (way_to c p) (way_to c v)

@@ -20,6 +20,7 @@ pub record IsConeFrom (c : Cone) (place : ℕ → Place) (count : ℕ) (bound : 
   pub reach : c.bound ≡ bound
   pub later : (j : ℕ) → i < j → j < count → IsPast c (place j)
 
--- from the number `next` on, the cone lets each place to which the straight way from the place number i is within the bound of those between
+-- from the number `next` on, the cone lets each place to which the straight way from the place number i is within the bound of those
+-- between
 abbrev pub LetsNear : Cone → (ℕ → Place) → ℕ → ℤ → ℕ → ℕ → Type 0
 LetsNear c place count bound i next = (j : ℕ) → next ≤ j → j < count → IsNearBetween place bound i j → Lets c (place j)

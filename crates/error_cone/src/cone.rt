@@ -6,11 +6,14 @@ ghost use Rattle.error_cone.specs.Ways.{is_forward};
 use crate::ways::{Way, flatter, mirror, product, steepest, way_between};
 use grid_exact::{Bound, Frame, Point};
 
-/// From a start, the points past it along a chain to which a straight way may still pass within a bound of each point taken so far.
+/// From a start, the points past it along a chain to which a straight way may still pass within a
+/// bound of each point taken so far.
 ///
-/// A way passes a point where its line meets the square of all that is at most the bound off the point on both axes, as the line of
-/// each segment within the bound of the point does. A point no further from the start than the bound, in the coordinate that the
-/// frame compares first, is passed by every way. Of the points taken only the tightest limit above and the tightest below are kept.
+/// A way passes a point where its line meets the square of all that is at most the bound off the
+/// point on both axes, as the line of each segment within the bound of the point does. A point no
+/// further from the start than the bound, in the coordinate that the frame compares first, is
+/// passed by every way. Of the points taken only the tightest limit above and the tightest below
+/// are kept.
 #[derive(Clone, Copy)]
 pub struct Cone {
     frame: Frame,
@@ -27,8 +30,9 @@ pub struct Cone {
 impl Cone {
     ghost use Rattle.error_cone.specs.Cone.{Lets, StartsAt, IsPast, Passes};
 
-    /// A cone at this start that lets every point past it. `rising` tells whether the chain rises in the order of the frame, or
-    /// falls. The bound is in grid units; where the points are weighted ones, in units of them.
+    /// A cone at this start that lets every point past it. `rising` tells whether the chain rises
+    /// in the order of the frame, or falls. The bound is in grid units; where the points are
+    /// weighted ones, in units of them.
     pub fn start(frame: Frame, rising: bool, from: Point, bound: Bound) -> Cone
         ensures origin { StartsAt result frame rising from bound }
         ensures lets { (v : Place) → IsPast result v → Lets result v }
@@ -43,12 +47,16 @@ impl Cone {
         }
     }
 
-    /// From now on only those points are let that were let before, and to which the way passes p. So a point is still let that was
-    /// let before, where p is within the bound of the segment from the start to it. The point p may be any.
+    /// From now on only those points are let that were let before, and to which the way passes p.
+    /// So a point is still let that was let before, where p is within the bound of the segment from
+    /// the start to it. The point p may be any.
     pub fn take(&mut self, p: Point)
-        ensures lets { (v : Place) → IsPast self.old v → Lets self.new v ↔ (Lets self.old v × Passes self.old p v) }
-        ensures near { (v : Place) → IsPast self.old v → IsWithin self.old.origin v p self.old.bound → Lets self.old v → Lets self.new v }
-        ensures origin { StartsAt self.new self.old.frame self.old.rising self.old.origin self.old.bound }
+        ensures lets { (v : Place) → IsPast self.old v → Lets self.new v
+            ↔ (Lets self.old v × Passes self.old p v) }
+        ensures near { (v : Place) → IsPast self.old v → IsWithin self.old.origin v p self.old.bound
+            → Lets self.old v → Lets self.new v }
+        ensures origin { StartsAt self.new self.old.frame self.old.rising self.old.origin
+            self.old.bound }
     {
         let way = way_between(self.frame, self.rising, self.origin, p);
         if way.across > self.bound.value() {
@@ -57,8 +65,8 @@ impl Cone {
         }
     }
 
-    /// Whether no point past the start is let: then no segment from the start to a point past it is within the bound of each point
-    /// taken.
+    /// Whether no point past the start is let: then no segment from the start to a point past it is
+    /// within the bound of each point taken.
     pub fn is_closed(&self) -> bool
         ensures { IsTrue result ↔ ((v : Place) → IsPast self.now v → ¬ (Lets self.now v)) }
     {

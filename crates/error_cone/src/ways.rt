@@ -1,7 +1,9 @@
 //! Ways from a place of a chain, in the axes of the chain.
-ghost use Rattle.std.specs.Prelude.{◌≡◌, ◌↔◌, ◌+ℤ◌, ◌*ℤ◌, ◌≤ℤ◌, ◌<ℤ◌, ◌^◌, ◌≤◌, pos, IsTrue, unsigned_abs};
+ghost use Rattle.std.specs.Prelude.{◌≡◌, ◌↔◌, ◌+ℤ◌, ◌*ℤ◌, ◌≤ℤ◌, ◌<ℤ◌, ◌^◌, ◌≤◌, pos, IsTrue};
+ghost use Rattle.std.specs.Prelude.{unsigned_abs};
 ghost use Rattle.grid_exact.specs.declared.frame.Frame.{Frame};
-ghost use Rattle.error_cone.specs.Ways.{step_of, way_of, is_forward, mirrored, IsUnder, IsUnderSquare};
+ghost use Rattle.error_cone.specs.Ways.{step_of, way_of, is_forward, mirrored, IsUnder};
+ghost use Rattle.error_cone.specs.Ways.{IsUnderSquare};
 
 use grid_exact::{Bound, Frame, Point};
 

@@ -11,4 +11,5 @@ short_number n h = length-decimal-le 7 n (omega arith) (omega arith) (omega arit
 
 pub short_coordinate : (z : ℤ) → IsGridNumber z → length (signed_decimal z) ≤ 10
 short_coordinate (pos n) h = let low : n ≤ 2 ^ 29 = omega (arith, ints, h.high) in length_signed_le 9 (pos n) (omega arith) (omega arith)
-short_coordinate (negsuc n) h = let low : n ≤ 2 ^ 29 = omega (arith, ints, h.low) in length_signed_le 9 (negsuc n) (omega arith) (omega arith)
+short_coordinate (negsuc n) h = let low : n ≤ 2 ^ 29 = omega (arith, ints, h.low) in
+    length_signed_le 9 (negsuc n) (omega arith) (omega arith)

@@ -1,5 +1,6 @@
 -- Runs are added to the cells that they reach, row by row.
-use Rattle.std.proofs.Common.{◌≡◌, ◌≢◌, ◌⊎◌, ◌∙◌, ℕ, ◌+◌, ◌-◌, ◌/◌, ◌<◌, ◌≤◌, true, false, List, [], ◌∷◌, ◌++◌, All, Contains, length, refl, ap, sym, subst, arith, inl, inr}
+use Rattle.std.proofs.Common.{◌≡◌, ◌≢◌, ◌⊎◌, ◌∙◌, ℕ, ◌+◌, ◌-◌, ◌/◌, ◌<◌, ◌≤◌, true, false, List, [], ◌∷◌, ◌++◌, All, Contains, length, refl}
+use Rattle.std.proofs.Common.{ap, sym, subst, arith, inl, inr}
 use Rattle.std.specs.List.Sorted.{IsPermutation}
 use Rattle.std.proofs.Math.Nat.{div-le_self}
 use Rattle.std.proofs.lemmas.Bool.{cases_eq, true≢false}
@@ -9,7 +10,8 @@ use Rattle.sweep_index.specs.Gathered.{made_over}
 use Rattle.sweep_index.proofs.Distinct.{pairs_nil}
 use Rattle.sweep_index.proofs.Gathering.{none_gathered, reordered, reworded, with_thing}
 use Rattle.sweep_index.proofs.Orders.{div_rises}
-use Rattle.face_parity.specs.Celled.{AreCelled, AreCelledBefore, AreWideTo, DoesReach, HasBox, InRow, IsInRowBefore, IsOfRow, cell_in, first_cell, is_wide, last_cell, run_at, spot_of}
+use Rattle.face_parity.specs.Celled.{AreCelled, AreCelledBefore, AreWideTo, DoesReach, HasBox, InRow, IsInRowBefore, IsOfRow, cell_in}
+use Rattle.face_parity.specs.Celled.{first_cell, is_wide, last_cell, run_at, spot_of}
 use Rattle.face_parity.specs.declared.cells.Celled.{Celled}
 use Rattle.face_parity.specs.declared.cells.Limits.{Limits}
 use Rattle.face_parity.specs.declared.runs.Run.{Run}
@@ -25,7 +27,8 @@ row-more : (number row : ℕ) (k : InRow) → IsInRowBefore number row k → IsI
 row-more number row k (inl less) = inl less
 row-more number row k (inr both) = inr (both.0, let less = both.1 in omega (arith, less))
 
-row-last : (number row : ℕ) (k : InRow) → IsInRowBefore number (row + 1) k → IsInRowBefore number row k ⊎ (k ≡ record { run = number; row = row })
+row-last : (number row : ℕ) (k : InRow) → IsInRowBefore number (row + 1) k
+    → IsInRowBefore number row k ⊎ (k ≡ record { run = number; row = row })
 row-last number row k (inl less) = inl (inl less)
 row-last number row k (inr both) = elim (cases_eq k.row row) [
   | inl here ↦ inr (same-in-row k number row both.0 here)
@@ -34,10 +37,12 @@ row-last number row k (inr both) = elim (cases_eq k.row row) [
 
 module _ (runs : List Run) (limits : Limits) (width height : ℕ) where
   -- no row of a run before its first one
-  pub rows-start : (number : ℕ) (celled : List Celled) → AreCelledBefore runs limits width height number 0 celled → AreCelledBefore runs limits width height number ((run_at runs number).floor / height) celled
+  pub rows-start : (number : ℕ) (celled : List Celled) → AreCelledBefore runs limits width height number 0 celled
+      → AreCelledBefore runs limits width height number ((run_at runs number).floor / height) celled
   rows-start number celled are =
       reworded spot_of IsOfRow (first_cell runs width) (last_cell runs width)
-      (λ k. DoesReach runs limits height k × IsInRowBefore number 0 k) (λ k. DoesReach runs limits height k × IsInRowBefore number ((run_at runs number).floor / height) k) celled
+      (λ k. DoesReach runs limits height k × IsInRowBefore number 0 k) (λ k. DoesReach runs limits height k
+      × IsInRowBefore number ((run_at runs number).floor / height) k) celled
       (λ k old. (old.0, there k old.1))
       (λ k new. (new.0, back k new.0 new.1)) are
     where
@@ -45,19 +50,23 @@ module _ (runs : List Run) (limits : Limits) (width height : ℕ) where
       there k (inl less) = inl less
       there k (inr both) = let less = both.1 in absurd (omega (arith, less))
 
-      back : (k : InRow) → DoesReach runs limits height k → IsInRowBefore number ((run_at runs number).floor / height) k → IsInRowBefore number 0 k
+      back : (k : InRow) → DoesReach runs limits height k → IsInRowBefore number ((run_at runs number).floor / height) k
+          → IsInRowBefore number 0 k
       back k reach (inl less) = inl less
       back k reach (inr both) =
           let less = both.1 in
           let low = reach.low in
-          let same : (run_at runs k.run).floor / height ≡ (run_at runs number).floor / height = ap (λ n. (run_at runs n).floor / height) both.0 in
+          let same : (run_at runs k.run).floor / height ≡ (run_at runs number).floor / height =
+          ap (λ n. (run_at runs n).floor / height) both.0 in
           absurd (omega (arith, less, low, same))
 
   -- and none behind its last one
-  pub rows-end : (number row : ℕ) (celled : List Celled) → (run_at runs number).bounds.north / height + 1 ≤ row → AreCelledBefore runs limits width height number row celled → AreCelledBefore runs limits width height (number + 1) 0 celled
+  pub rows-end : (number row : ℕ) (celled : List Celled) → (run_at runs number).bounds.north / height + 1 ≤ row
+      → AreCelledBefore runs limits width height number row celled → AreCelledBefore runs limits width height (number + 1) 0 celled
   rows-end number row celled done are =
       reworded spot_of IsOfRow (first_cell runs width) (last_cell runs width)
-      (λ k. DoesReach runs limits height k × IsInRowBefore number row k) (λ k. DoesReach runs limits height k × IsInRowBefore (number + 1) 0 k) celled
+      (λ k. DoesReach runs limits height k × IsInRowBefore number row k) (λ k. DoesReach runs limits height k
+      × IsInRowBefore (number + 1) 0 k) celled
       (λ k old. (old.0, there k old.1))
       (λ k new. (new.0, back k new.0 new.1)) are
     where
@@ -69,14 +78,21 @@ module _ (runs : List Run) (limits : Limits) (width height : ℕ) where
       back k reach (inl less) = elim (cases_eq k.run number) [
         | inl here ↦
             let high = reach.high in
-            let same : (run_at runs k.run).bounds.north / height ≡ (run_at runs number).bounds.north / height = ap (λ n. (run_at runs n).bounds.north / height) here in
+            let same : (run_at runs k.run).bounds.north / height ≡ (run_at runs number).bounds.north / height =
+            ap (λ n. (run_at runs n).bounds.north / height) here in
             inr (here, omega (arith, high, same, done))
         | inr elsewhere ↦ inl (omega (arith, less, elsewhere))
       ]
       back k reach (inr both) = let less = both.1 in absurd (omega (arith, less))
 
   -- a row more
-  pub rows-more : (number row : ℕ) (celled : List Celled) → 0 < width → All HasBox runs → number < length runs → is_wide limits (run_at runs number) ≡ false → (run_at runs number).floor / height ≤ row → row ≤ (run_at runs number).bounds.north / height → AreCelledBefore runs limits width height number row celled → AreCelledBefore runs limits width height number (row + 1) (celled ++ made_over (λ cell. record { cell = cell; row = row; run = number }) (cell_in row ((run_at runs number).bounds.west / width)) (cell_in row ((run_at runs number).bounds.east / width) + 1 - cell_in row ((run_at runs number).bounds.west / width)))
+  pub rows-more : (number row : ℕ) (celled : List Celled) → 0 < width → All HasBox runs → number < length runs
+      → is_wide limits (run_at runs number) ≡ false → (run_at runs number).floor / height ≤ row
+      → row ≤ (run_at runs number).bounds.north / height → AreCelledBefore runs limits width height number row celled
+      → AreCelledBefore runs limits width height number (row + 1)
+      (celled ++ made_over (λ cell. record { cell = cell; row = row; run = number })
+      (cell_in row ((run_at runs number).bounds.west / width)) (cell_in row ((run_at runs number).bounds.east / width) + 1 - cell_in row
+      ((run_at runs number).bounds.west / width)))
   rows-more number row celled wide boxes within narrow low high so_far =
       let r = run_at runs number in
       let box = All-get_or HasBox runs number (run_at [] 0) within boxes in
@@ -84,7 +100,8 @@ module _ (runs : List Run) (limits : Limits) (width height : ℕ) where
       let most = box.small.0 in
       let least : r.bounds.east / width ≤ r.bounds.east = div-le_self r.bounds.east width in
       with_thing spot_of IsOfRow (first_cell runs width) (last_cell runs width)
-      (λ k. DoesReach runs limits height k × IsInRowBefore number row k) (λ k. DoesReach runs limits height k × IsInRowBefore number (row + 1) k) celled
+      (λ k. DoesReach runs limits height k × IsInRowBefore number row k) (λ k. DoesReach runs limits height k
+      × IsInRowBefore number (row + 1) k) celled
       (record { run = number; row = row }) (λ cell. record { cell = cell; row = row; run = number })
       (cell_in row (r.bounds.west / width)) (cell_in row (r.bounds.east / width)) so_far (λ slot. refl)
       refl refl (omega (arith, rises))
@@ -95,10 +112,12 @@ module _ (runs : List Run) (limits : Limits) (width height : ℕ) where
       (λ k new. elim (row-last number row k new.1) [ inl old ↦ inl (new.0, old) | inr same ↦ inr same ])
 
   -- a wide run is in no cell
-  pub rows-wide : (number : ℕ) (celled : List Celled) → is_wide limits (run_at runs number) ≡ true → AreCelledBefore runs limits width height number 0 celled → AreCelledBefore runs limits width height (number + 1) 0 celled
+  pub rows-wide : (number : ℕ) (celled : List Celled) → is_wide limits (run_at runs number) ≡ true
+      → AreCelledBefore runs limits width height number 0 celled → AreCelledBefore runs limits width height (number + 1) 0 celled
   rows-wide number celled wide are =
       reworded spot_of IsOfRow (first_cell runs width) (last_cell runs width)
-      (λ k. DoesReach runs limits height k × IsInRowBefore number 0 k) (λ k. DoesReach runs limits height k × IsInRowBefore (number + 1) 0 k) celled
+      (λ k. DoesReach runs limits height k × IsInRowBefore number 0 k) (λ k. DoesReach runs limits height k
+      × IsInRowBefore (number + 1) 0 k) celled
       (λ k old. (old.0, there k old.1))
       (λ k new. (new.0, back k new.0 new.1)) are
     where
@@ -114,20 +133,24 @@ module _ (runs : List Run) (limits : Limits) (width height : ℕ) where
       back k reach (inr both) = let less = both.1 in absurd (omega (arith, less))
 
   pub none-celled : AreCelledBefore runs limits width height 0 0 []
-  none-celled = none_gathered spot_of IsOfRow (first_cell runs width) (last_cell runs width) (λ k. DoesReach runs limits height k × IsInRowBefore 0 0 k) (λ k wanted. none k wanted.1)
+  none-celled = none_gathered spot_of IsOfRow (first_cell runs width) (last_cell runs width) (λ k. DoesReach runs limits height k
+      × IsInRowBefore 0 0 k) (λ k wanted. none k wanted.1)
     where
       none : (k : InRow) → IsInRowBefore 0 0 k → ⊥
       none k (inl less) = omega (arith, less)
       none k (inr both) = let less = both.1 in omega (arith, less)
 
-  pub all-celled : (number : ℕ) (celled : List Celled) → length runs ≤ number → AreCelledBefore runs limits width height number 0 celled → AreCelled runs limits width height celled
+  pub all-celled : (number : ℕ) (celled : List Celled) → length runs ≤ number → AreCelledBefore runs limits width height number 0 celled
+      → AreCelled runs limits width height celled
   all-celled number celled all are =
       reworded spot_of IsOfRow (first_cell runs width) (last_cell runs width)
       (λ k. DoesReach runs limits height k × IsInRowBefore number 0 k) (DoesReach runs limits height) celled
       (λ k old. old.0) (λ k reach. (reach, let within = reach.run in inl (omega (arith, within, all)))) are
 
-  pub celled-reordered : (xs ys : List Celled) → IsPermutation xs ys → AreCelled runs limits width height xs → AreCelled runs limits width height ys
-  celled-reordered xs ys moves are = reordered spot_of IsOfRow (first_cell runs width) (last_cell runs width) (DoesReach runs limits height) xs ys moves are
+  pub celled-reordered : (xs ys : List Celled) → IsPermutation xs ys → AreCelled runs limits width height xs
+      → AreCelled runs limits width height ys
+  celled-reordered xs ys moves are = reordered spot_of IsOfRow (first_cell runs width) (last_cell runs width) (DoesReach runs limits height)
+      xs ys moves are
 
 -- ---- the wide runs
 
@@ -139,21 +162,26 @@ module _ (runs : List Run) (limits : Limits) where
     once = pairs_nil (λ i j. i ≢ j);
   }
 
-  pub wide-more : (number : ℕ) (wides : List ℕ) → is_wide limits (run_at runs number) ≡ true → AreWideTo runs limits number wides → AreWideTo runs limits (number + 1) (wides ++ number ∷ [])
+  pub wide-more : (number : ℕ) (wides : List ℕ) → is_wide limits (run_at runs number) ≡ true → AreWideTo runs limits number wides
+      → AreWideTo runs limits (number + 1) (wides ++ number ∷ [])
   wide-more number wides wide are = record {
     only = All-push (λ n. (n < number + 1) × (is_wide limits (run_at runs n) ≡ true)) wides number
-        (All-weaker (λ n. (n < number) × (is_wide limits (run_at runs n) ≡ true)) (λ n. (n < number + 1) × (is_wide limits (run_at runs n) ≡ true)) (λ n is. (let less = is.0 in omega (arith, less), is.1)) wides are.only)
+        (All-weaker (λ n. (n < number) × (is_wide limits (run_at runs n) ≡ true)) (λ n. (n < number + 1)
+        × (is_wide limits (run_at runs n) ≡ true)) (λ n is. (let less = is.0 in omega (arith, less), is.1)) wides are.only)
         (omega arith, wide);
     all = λ n less is. elim (cases_eq n number) [
       | inl here ↦ subst (Contains (wides ++ number ∷ [])) (sym here) (Contains-push wides number)
       | inr elsewhere ↦ Contains-append_left wides (number ∷ []) n (are.all n (omega (arith, less, elsewhere)) is)
     ];
-    once = all_pairs_push (λ i j. i ≢ j) wides number are.once (λ n d within same. let less = (are.only n d within).0 in omega (arith, less, same));
+    once = all_pairs_push (λ i j. i ≢ j) wides number are.once (λ n d within same. let less = (are.only n d within).0 in
+        omega (arith, less, same));
   }
 
-  pub wide-skip : (number : ℕ) (wides : List ℕ) → is_wide limits (run_at runs number) ≡ false → AreWideTo runs limits number wides → AreWideTo runs limits (number + 1) wides
+  pub wide-skip : (number : ℕ) (wides : List ℕ) → is_wide limits (run_at runs number) ≡ false → AreWideTo runs limits number wides
+      → AreWideTo runs limits (number + 1) wides
   wide-skip number wides narrow are = record {
-    only = All-weaker (λ n. (n < number) × (is_wide limits (run_at runs n) ≡ true)) (λ n. (n < number + 1) × (is_wide limits (run_at runs n) ≡ true)) (λ n is. (let less = is.0 in omega (arith, less), is.1)) wides are.only;
+    only = All-weaker (λ n. (n < number) × (is_wide limits (run_at runs n) ≡ true)) (λ n. (n < number + 1)
+        × (is_wide limits (run_at runs n) ≡ true)) (λ n is. (let less = is.0 in omega (arith, less), is.1)) wides are.only;
     all = λ n less is. elim (cases_eq n number) [
       | inl here ↦ absurd (true≢false (sym is ∙ ap (λ k. is_wide limits (run_at runs k)) here ∙ narrow))
       | inr elsewhere ↦ are.all n (omega (arith, less, elsewhere)) is

@@ -28,13 +28,16 @@ widened-has b at q is = let x = is.x in let y = is.y in record {
   north = omega (arith, y);
 }
 
-pub round-more : (ps : List Place) (i : ℕ) (q : Place) (b new : Bounds) (at : Offset) → i < length ps → q ≡ get_or ps i q → new ≡ widened b at → IsOffsetOf q at → All (IsIn b) (take i ps) → All (IsIn new) (take (i + 1) ps)
+pub round-more : (ps : List Place) (i : ℕ) (q : Place) (b new : Bounds) (at : Offset) → i < length ps → q ≡ get_or ps i q
+    → new ≡ widened b at → IsOffsetOf q at → All (IsIn b) (take i ps) → All (IsIn new) (take (i + 1) ps)
 round-more ps i q b new at within read is here so_far =
     subst (λ n. All (IsIn n) (take (i + 1) ps)) (sym is)
-    (All-more (IsIn (widened b at)) ps i q within (All-weaker (IsIn b) (IsIn (widened b at)) (λ r has. widened-holds b at r has) (take i ps) so_far)
+    (All-more (IsIn (widened b at)) ps i q within (All-weaker (IsIn b) (IsIn (widened b at)) (λ r has. widened-holds b at r has) (take i ps)
+    so_far)
     (subst (IsIn (widened b at)) read (widened-has b at q here)))
 
-pub small-more : (b new : Bounds) (q : Place) (at : Offset) → new ≡ widened b at → IsOffsetOf q at → (b.east ≤ 2 ^ 30) × (b.north ≤ 2 ^ 30) → (new.east ≤ 2 ^ 30) × (new.north ≤ 2 ^ 30)
+pub small-more : (b new : Bounds) (q : Place) (at : Offset) → new ≡ widened b at → IsOffsetOf q at → (b.east ≤ 2 ^ 30) × (b.north ≤ 2 ^ 30)
+    → (new.east ≤ 2 ^ 30) × (new.north ≤ 2 ^ 30)
 small-more b new q at is here small =
     subst (λ (n : Bounds). (n.east ≤ 2 ^ 30) × (n.north ≤ 2 ^ 30)) (sym is)
     (let x = here.small.0 in let y = here.small.1 in let east = small.0 in let north = small.1 in

@@ -22,5 +22,7 @@ part-some ps from to edge within =
 pub run-read : (runs : List Run) (number : ℕ) (r : Run) → slice_get runs number ≡ Some r → r ≡ run_at runs number
 run-read runs number r is = sym (get_or_from_slice_get runs number r (run_at [] number) is)
 
-pub read-run : (m : Map) (floors : Floors) (runs : List Run) (number : ℕ) (r : Run) → slice_get runs number ≡ Some r → All (IsRunOf m floors) runs → IsRunOf m floors r
-read-run m floors runs number r is all = subst (IsRunOf m floors) (sym (run-read runs number r is)) (All-get_or (IsRunOf m floors) runs number (run_at [] 0) (slice_get_within runs number r is) all)
+pub read-run : (m : Map) (floors : Floors) (runs : List Run) (number : ℕ) (r : Run) → slice_get runs number ≡ Some r
+    → All (IsRunOf m floors) runs → IsRunOf m floors r
+read-run m floors runs number r is all = subst (IsRunOf m floors) (sym (run-read runs number r is))
+    (All-get_or (IsRunOf m floors) runs number (run_at [] 0) (slice_get_within runs number r is) all)

@@ -1,5 +1,6 @@
 -- Lists that hold the same of what passes a test.
-use Rattle.std.proofs.Common.{◌≡◌, ◌≢◌, ◌∙◌, zero, suc, Bool, true, List, [], ◌∷◌, All, AllPairs, Contains, get_or, refl, sym, ap, arith, inl, inr}
+use Rattle.std.proofs.Common.{◌≡◌, ◌≢◌, ◌∙◌, zero, suc, Bool, true, List, [], ◌∷◌, All, AllPairs, Contains, get_or, refl, sym, ap, arith}
+use Rattle.std.proofs.Common.{inl, inr}
 use Rattle.std.specs.Prelude.{◌⊎◌, remove}
 use Rattle.std.proofs.lemmas.Bool.{false_from_ne_true, true≢false, cases_Bool}
 use Rattle.std.proofs.lemmas.List.Elements.{All-contains, Contains-get_or}
@@ -28,8 +29,12 @@ pub not-in : {X : Type 0} (x z : X) (xs : List X) → All (λ y. x ≢ y) xs →
 not-in x z xs apart held = All-contains (λ y. x ≢ y) xs z apart held
 
 -- of two lists in which each thing is once, and which hold the same of what passes, the same parity passes
-pub pass-same : {X : Type 0} (test : X → Bool) (xs ys : List X) → AllPairs (λ y z. y ≢ z) xs → AllPairs (λ y z. y ≢ z) ys → ((z : X) → test z ≡ true → Contains xs z → Contains ys z) → ((z : X) → test z ≡ true → Contains ys z → Contains xs z) → pass_oddly test xs ≡ pass_oddly test ys
-pass-same {X = X} test [] ys first second there back = sym (pass-none test ys (λ k d within. false_from_ne_true (test (get_or ys k d)) (λ passes. in-none (get_or ys k d) (back (get_or ys k d) passes (Contains-get_or ys k d within)))))
+pub pass-same : {X : Type 0} (test : X → Bool) (xs ys : List X) → AllPairs (λ y z. y ≢ z) xs → AllPairs (λ y z. y ≢ z) ys
+    → ((z : X) → test z ≡ true → Contains xs z → Contains ys z) → ((z : X) → test z ≡ true → Contains ys z → Contains xs z)
+    → pass_oddly test xs ≡ pass_oddly test ys
+pass-same {X = X} test [] ys first second there back =
+    sym (pass-none test ys (λ k d within. false_from_ne_true (test (get_or ys k d)) (λ passes.
+    in-none (get_or ys k d) (back (get_or ys k d) passes (Contains-get_or ys k d within)))))
 pass-same {X = X} test (x ∷ xs) ys first second there back =
     elim (cases_Bool (test x)) as (λ _. pass_oddly test (x ∷ xs) ≡ pass_oddly test ys) [
       | inl passes ↦
@@ -40,8 +45,10 @@ pass-same {X = X} test (x ∷ xs) ys first second there back =
           let head = pairs_head (λ y z. y ≢ z) x xs first in
           let other = pairs_head (λ y z. y ≢ z) x rest apart in
           let later = pass-same test xs rest (pairs_tail (λ y z. y ≢ z) x xs first) (pairs_tail (λ y z. y ≢ z) x rest apart)
-          (λ z ok held. in-tail x z rest (not-in x z xs head held) (Contains-permutation ys (x ∷ rest) z moves (there z ok (in-later x z xs held))))
-          (λ z ok held. in-tail x z xs (not-in x z rest other held) (back z ok (Contains-permutation (x ∷ rest) ys z (IsPermutation-sym ys (x ∷ rest) moves) (in-later x z rest held)))) in
+          (λ z ok held. in-tail x z rest (not-in x z xs head held)
+          (Contains-permutation ys (x ∷ rest) z moves (there z ok (in-later x z xs held))))
+          (λ z ok held. in-tail x z xs (not-in x z rest other held)
+          (back z ok (Contains-permutation (x ∷ rest) ys z (IsPermutation-sym ys (x ∷ rest) moves) (in-later x z rest held)))) in
           ap (differ (test x)) later ∙ pass-permutation test ys (x ∷ rest) moves
       | inr fails ↦
           let differs : (z : X) → test z ≡ true → x ≡ z → ⊥ = λ z ok same. true≢false (sym ok ∙ sym (ap test same) ∙ fails) in

@@ -1,5 +1,6 @@
 -- Runs in the cells of the plane that they reach.
-use Rattle.std.specs.Prelude.{◌≡◌, ◌≢◌, ◌⊎◌, ◌||◌, ◌+◌, ◌-◌, ◌*◌, ◌/◌, ◌^◌, ◌<◌, ◌≤◌, ◌==◌, nat_lt, ℕ, Bool, true, false, List, All, AllPairs, Contains, filter, length, get_or}
+use Rattle.std.specs.Prelude.{◌≡◌, ◌≢◌, ◌⊎◌, ◌||◌, ◌+◌, ◌-◌, ◌*◌, ◌/◌, ◌^◌, ◌<◌, ◌≤◌, ◌==◌, nat_lt, ℕ, Bool, true, false, List, All}
+use Rattle.std.specs.Prelude.{AllPairs, Contains, filter, length, get_or}
 use Rattle.sweep_index.specs.Gathered.{AreGathered}
 use Rattle.face_parity.specs.declared.bounds.Offset.{Offset}
 use Rattle.face_parity.specs.declared.cells.Celled.{Celled}
@@ -20,7 +21,15 @@ in_cell cell celled = filter (λ c. c.cell == cell) celled
 
 -- the run with this number
 abbrev pub run_at : List Run → ℕ → Run
-run_at runs number = get_or runs number (record { arc = 0; from = 0; to = 0; floor = 0; bounds = record { west = 0; east = 0; south = 0; north = 0 }; ends = record { first = 0; last = 0 } })
+run_at runs number = get_or runs number (record {
+  arc = 0;
+  from = 0;
+  to = 0;
+  floor = 0;
+  bounds =
+      record { west = 0; east = 0; south = 0; north = 0 };
+  ends = record { first = 0; last = 0 };
+})
 
 -- the box of the run goes east and up from its floor, and not past the grid
 pub record HasBox (r : Run) : Type 0 where
@@ -72,8 +81,10 @@ IsInRowBefore number row k = (k.run < number) ⊎ ((k.run ≡ number) × (k.row 
 
 -- these are the runs that are not wide before this row of this one, in each cell that they reach, each once
 abbrev pub AreCelledBefore : List Run → Limits → ℕ → ℕ → ℕ → ℕ → List Celled → Type 0
-AreCelledBefore runs limits width height number row celled = AreGathered spot_of IsOfRow (λ k. DoesReach runs limits height k × IsInRowBefore number row k) (first_cell runs width) (last_cell runs width) celled
+AreCelledBefore runs limits width height number row celled = AreGathered spot_of IsOfRow (λ k. DoesReach runs limits height k
+    × IsInRowBefore number row k) (first_cell runs width) (last_cell runs width) celled
 
 -- these are the runs that are not wide, in each cell that they reach, each once
 abbrev pub AreCelled : List Run → Limits → ℕ → ℕ → List Celled → Type 0
-AreCelled runs limits width height celled = AreGathered spot_of IsOfRow (DoesReach runs limits height) (first_cell runs width) (last_cell runs width) celled
+AreCelled runs limits width height celled = AreGathered spot_of IsOfRow (DoesReach runs limits height) (first_cell runs width)
+    (last_cell runs width) celled

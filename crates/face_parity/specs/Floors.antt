@@ -49,4 +49,5 @@ pub record AreFloorsOf (m : Map) (floors : Floors) : Type 0 where
   pub polygons : length floors.polygons.items ≡ length m.polygons
   pub arcs : length floors.arcs.items ≡ length m.arcs
   pub outside : (k : ℕ) → k < length m.polygons → IsFloorOf m k (slice_index floors.polygons.items k)
-  pub under : (k arc : ℕ) → k < length m.polygons → Contains (get_or m.polygons k []) arc → slice_index floors.arcs.items arc ≤ slice_index floors.polygons.items k
+  pub under : (k arc : ℕ) → k < length m.polygons → Contains (get_or m.polygons k []) arc
+      → slice_index floors.arcs.items arc ≤ slice_index floors.polygons.items k

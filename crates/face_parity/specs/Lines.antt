@@ -27,4 +27,5 @@ still true ns = spaced ns
 still false ns = numbers_text ns
 
 unfoldable pub line_of : Map → ℕ → List ℕ
-line_of m k = let p = get_or m.points k nowhere in codes "point " ++ decimal k ++ codes " " ++ signed_decimal p.x ++ codes " " ++ signed_decimal p.y ++ codes " in" ++ numbers_text (faces_of m p) ++ codes "\n"
+line_of m k = let p = get_or m.points k nowhere in codes "point " ++ decimal k ++ codes " " ++ signed_decimal p.x ++ codes " "
+    ++ signed_decimal p.y ++ codes " in" ++ numbers_text (faces_of m p) ++ codes "\n"

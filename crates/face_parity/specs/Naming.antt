@@ -20,4 +20,5 @@ pub record IsStartOf (namings : List Naming) (arc start : ℕ) : Type 0 where
 -- these are the namings of arcs by the polygons: each polygon names each arc as often as it does, by parity
 pub record AreNamings (polygons : List (List ℕ)) (namings : List Naming) : Type 0 where
   pub below : All (λ n. n.polygon < length polygons) namings
-  pub odd : (arc polygon : ℕ) → polygon < length polygons → pass_oddly (is_naming arc polygon) namings ≡ pass_oddly (λ a. a == arc) (get_or polygons polygon [])
+  pub odd : (arc polygon : ℕ) → polygon < length polygons → pass_oddly (is_naming arc polygon) namings
+      ≡ pass_oddly (λ a. a == arc) (get_or polygons polygon [])

@@ -1,9 +1,10 @@
-//! Boxes round positions, and where lists of positions begin and end, in offsets: coordinates that are counted from the
-//! least one of the grid.
+//! Boxes round positions, and where lists of positions begin and end, in offsets: coordinates that
+//! are counted from the least one of the grid.
 ghost use Rattle.std.specs.Prelude.{◌≡◌, ◌<◌, ◌≤◌, ◌^◌, All, length, min, max};
 ghost use Rattle.grid_exact.specs.Geometry.{IsGridNumber};
 ghost use Rattle.sweep_index.specs.Offsets.{offset_of};
-ghost use Rattle.face_parity.specs.Bounds.{IsOffsetOf, IsIn, IsRound, IsEndsOf, do_part, does_reach};
+ghost use Rattle.face_parity.specs.Bounds.{IsOffsetOf, IsIn, IsRound, IsEndsOf, do_part};
+ghost use Rattle.face_parity.specs.Bounds.{does_reach};
 
 use grid_exact::{MAX_COORDINATE, Point, exactly_one};
 
@@ -87,7 +88,8 @@ impl Bounds {
         }
     }
 
-    // Whether some place of the box may be over this one: its x is in the range of the box, and its y not above it.
+    // Whether some place of the box may be over this one: its x is in the range of the box, and its
+    // y not above it.
     pub fn reaches(&self, at: Offset) -> bool
         ensures { result ≡ does_reach self.now at }
     {

@@ -1,8 +1,10 @@
 //! The runs of a map by the cells of the plane that they reach.
-ghost use Rattle.std.specs.Prelude.{◌≡◌, ◌<◌, ◌≤◌, ◌+◌, ◌-◌, ◌*◌, ◌/◌, ◌^◌, ◌++◌, IfOk, OnOk, All, Some, length, slice_get};
+ghost use Rattle.std.specs.Prelude.{◌≡◌, ◌<◌, ◌≤◌, ◌+◌, ◌-◌, ◌*◌, ◌/◌, ◌^◌, ◌++◌, IfOk, OnOk, All};
+ghost use Rattle.std.specs.Prelude.{Some, length, slice_get};
 ghost use Rattle.std.specs.List.Sorted.{IsNonDecreasingBy};
 ghost use Rattle.sweep_index.specs.Gathered.{made_over};
-ghost use Rattle.face_parity.specs.Celled.{AreCelled, AreCelledBefore, AreWideTo, HasBox, cell_at, cell_in, in_cell, is_wide};
+ghost use Rattle.face_parity.specs.Celled.{AreCelled, AreCelledBefore, AreWideTo, HasBox, cell_at};
+ghost use Rattle.face_parity.specs.Celled.{cell_in, in_cell, is_wide};
 
 use crate::bounds::Offset;
 use crate::floors::Floors;
@@ -10,7 +12,8 @@ use crate::runs::{Run, runs_of};
 use arc_map::{ArcMap, NoMemory};
 use std::alloc::{AllocError, Global};
 
-// A run, by its number, in a cell of a row. The box of the run, down to its floor, reaches the cell.
+// A run, by its number, in a cell of a row. The box of the run, down to its floor, reaches the
+// cell.
 #[derive(Clone, Copy)]
 pub(crate) struct Celled {
     pub cell: u64,
@@ -57,8 +60,8 @@ fn limit(sum: u64, count: u64) -> u32 {
     mean.saturating_mul(64).min(u64::from(u32::MAX)) as u32
 }
 
-// The runs of a map, those in each cell, in order of the cells, those that are too wide for cells, and the floors to which
-// they reach. A cell is so wide and so high.
+// The runs of a map, those in each cell, in order of the cells, those that are too wide for cells,
+// and the floors to which they reach. A cell is so wide and so high.
 #[derive(Drop)]
 pub(crate) struct Cells {
     pub floors: Floors,
@@ -109,7 +112,8 @@ impl Cells {
 
     // The runs in the cell of a place.
     pub fn at(&self, at: Offset) -> &[Celled]
-        ensures { result.now ≡ in_cell (cell_at self.now.width self.now.height at) self.now.celled.items }
+        ensures { result.now ≡ in_cell (cell_at self.now.width self.now.height at)
+            self.now.celled.items }
     {
         let cell = cell(at.y / self.height, at.x / self.width);
         in_one(self.celled.as_slice(), cell)
@@ -207,7 +211,8 @@ fn push_run(
     requires wide { 0 < width }
     requires high { 0 < height }
     requires so_far { AreCelledBefore runs.now limits width height number 0 celled.old.items }
-    ensures { OnOk result (AreCelledBefore runs.now limits width height (number + 1) 0 celled.new.items) }
+    ensures { OnOk result (AreCelledBefore runs.now limits width height (number + 1) 0
+        celled.new.items) }
 {
     let run = runs[number as usize];
     if limits.are_passed_by(run) {
@@ -231,7 +236,9 @@ fn push_row(
 ) -> Result<(), AllocError>
     requires row { row ≤ 2 ^ 30 }
     requires columns { west ≤ east }
-    ensures { OnOk result (celled.new.items ≡ celled.old.items ++ made_over (λ cell. record { cell = cell; row = row; run = run }) (cell_in row west) (cell_in row east + 1 - cell_in row west)) }
+    ensures { OnOk result (celled.new.items ≡ celled.old.items
+        ++ made_over (λ cell. record { cell = cell; row = row; run = run }) (cell_in row west)
+        (cell_in row east + 1 - cell_in row west)) }
 {
     for cell in cell(row, west)..cell(row, east) + 1 {
         celled.push(Celled { cell, row, run })?;
@@ -239,8 +246,8 @@ fn push_row(
     Ok(())
 }
 
-// A height of cells, from this one on, for which the runs that are not too wide reach not more than four cells of this
-// width on average; where there is none, the greatest.
+// A height of cells, from this one on, for which the runs that are not too wide reach not more than
+// four cells of this width on average; where there is none, the greatest.
 fn high_enough(runs: &[Run], limits: Limits, width: u32, least: u32) -> u32
     requires wide { 0 < width }
     requires high { 0 < least }
@@ -255,7 +262,8 @@ fn high_enough(runs: &[Run], limits: Limits, width: u32, least: u32) -> u32
     height
 }
 
-// How many cells of this width and height the runs reach that are not too wide, each cell as often as runs reach it.
+// How many cells of this width and height the runs reach that are not too wide, each cell as often
+// as runs reach it.
 fn reached(runs: &[Run], limits: Limits, width: u32, height: u32) -> u64
     requires wide { 0 < width }
     requires high { 0 < height }
@@ -325,7 +333,8 @@ impl Sizes {
         width
     }
 
-    // A height of cells of this width for which a run reaches two cells on average, where boxes are much alike.
+    // A height of cells of this width for which a run reaches two cells on average, where boxes are
+    // much alike.
     fn height(&self, width: u32) -> u32
         requires { 0 < width }
         ensures high { 0 < result }
@@ -339,7 +348,8 @@ impl Sizes {
         height
     }
 
-    // Whether the runs, which reach so many columns in sum, reach more than two cells on average where cells are so high.
+    // Whether the runs, which reach so many columns in sum, reach more than two cells on average
+    // where cells are so high.
     fn is_too_low(&self, columns: u64, height: u32) -> bool
         requires { 0 < height }
     {

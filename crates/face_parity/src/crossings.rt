@@ -8,8 +8,8 @@ ghost use Rattle.face_parity.specs.Crossings.{crossings};
 use arc_map::ArcMap;
 use grid_exact::{Point, exactly_one, is_edge_crossed, is_walk_crossed_oddly};
 
-/// How many edges of the list of positions are crossed from p: by a ray that goes straight up from p, tilted so
-/// little that it meets no position.
+/// How many edges of the list of positions are crossed from p: by a ray that goes straight up from
+/// p, tilted so little that it meets no position.
 pub fn crossed(list: &[Point], p: Point) -> u64
     ensures { result ≡ crossings p list.now }
 {
@@ -41,8 +41,8 @@ fn crossing(p: Point, a: Point, b: Point) -> u64
     if is_edge_crossed(p, a, b) { 1 } else { 0 }
 }
 
-/// Whether p lies in the polygon: the edges of the arcs that its rings name, each as often as it is named, are
-/// crossed from p an odd number of times in sum.
+/// Whether p lies in the polygon: the edges of the arcs that its rings name, each as often as it is
+/// named, are crossed from p an odd number of times in sum.
 pub fn inside(topology: &ArcMap, polygon: u32, p: Point) -> bool
     requires { polygon < length topology.now.polygons }
     ensures { result ≡ is_inside p topology.now polygon }
@@ -50,8 +50,8 @@ pub fn inside(topology: &ArcMap, polygon: u32, p: Point) -> bool
     is_inside_rings(topology, topology.polygon(polygon), p)
 }
 
-// Whether the arcs with these numbers, each as often as it is named, have an odd number of edges that are crossed
-// from p in sum.
+// Whether the arcs with these numbers, each as often as it is named, have an odd number of edges
+// that are crossed from p in sum.
 fn is_inside_rings(topology: &ArcMap, arcs: &[u32], p: Point) -> bool
     requires { All (λ arc. arc < length topology.now.arcs) arcs.now }
     ensures { result ≡ is_inside_of p topology.now.arcs arcs.now }

@@ -1,5 +1,7 @@
 //! The lines of `faces`.
-ghost use Rattle.std.specs.Prelude.{◌≡◌, ◌<◌, ◌≤◌, ◌+◌, ◌*◌, ◌^◌, ◌++◌, ◌∷◌, ℕ, List, false, IfOk, length, filter, slice_index, vec_len, vec_capacity, codes, decimal};
+ghost use Rattle.std.specs.Prelude.{◌≡◌, ◌<◌, ◌≤◌, ◌+◌, ◌*◌, ◌^◌, ◌++◌, ◌∷◌, ℕ, List, false, IfOk};
+ghost use Rattle.std.specs.Prelude.{length, filter, slice_index, vec_len, vec_capacity, codes};
+ghost use Rattle.std.specs.Prelude.{decimal};
 ghost use Rattle.std.specs.Fmt.{signed_decimal};
 ghost use Rattle.grid_exact.specs.Walks.{differ};
 ghost use Rattle.arc_map.specs.Arcs.{is_inside};
@@ -27,13 +29,14 @@ use arc_map::{ArcMap, NoMemory};
 use grid_exact::Point;
 use std::alloc::Global;
 
-// The longest line without the numbers of polygons, and the longest number of a polygon with its space, in bytes.
+// The longest line without the numbers of polygons, and the longest number of a polygon with its
+// space, in bytes.
 const LINE: usize = 64;
 
 const NUMBER: usize = 8;
 
-/// What is made once for the points of a map: the runs of its arcs by the cells that they reach, the polygons that name
-/// each arc, one parity for each polygon, and room for the longest line.
+/// What is made once for the points of a map: the runs of its arcs by the cells that they reach,
+/// the polygons that name each arc, one parity for each polygon, and room for the longest line.
 #[derive(Drop)]
 pub struct FaceScratch {
     cells: Cells,
@@ -60,9 +63,9 @@ impl FaceScratch {
         })
     }
 
-    /// Writes the line of `faces` for the point number `k`, with its line feed: `point K X Y in`, and the numbers of
-    /// the polygons in which it lies, rising, each after a space, or ` none`. The scratch must be that of this map.
-    /// No memory is taken.
+    /// Writes the line of `faces` for the point number `k`, with its line feed: `point K X Y in`,
+    /// and the numbers of the polygons in which it lies, rising, each after a space, or ` none`.
+    /// The scratch must be that of this map. No memory is taken.
     pub fn write_line(&mut self, topology: &ArcMap, k: u32)
         requires scratch { IsScratchOf topology.now self.old }
         requires point { k < length topology.now.points }
@@ -89,8 +92,8 @@ impl FaceScratch {
     }
 }
 
-// Turns each polygon as often as edges of the arcs that it names are crossed from p, by parity, if its floor is not above
-// p.
+// Turns each polygon as often as edges of the arcs that it names are crossed from p, by parity, if
+// its floor is not above p.
 fn turn_crossed(
     tally: &mut Tally,
     cells: &Cells,
@@ -107,7 +110,9 @@ fn turn_crossed(
     requires at { IsOffsetOf p at }
     ensures tally { IsTally tally.new }
     ensures polygons { length tally.new.odd.items ≡ length tally.old.odd.items }
-    ensures odd { (k : ℕ) → k < length topology.now.polygons → slice_index cells.now.floors.polygons.items k ≤ at.y → is_odd_at tally.new k ≡ is_inside p topology.now k }
+    ensures odd { (k : ℕ) → k < length topology.now.polygons
+        → slice_index cells.now.floors.polygons.items k ≤ at.y
+        → is_odd_at tally.new k ≡ is_inside p topology.now k }
 {
     turn_celled(tally, cells, namings, topology, p, at);
     turn_wide(tally, cells, namings, topology, p, at);
@@ -129,7 +134,11 @@ fn turn_celled(
     requires at { IsOffsetOf p at }
     ensures tally { IsTally tally.new }
     ensures polygons { length tally.new.odd.items ≡ length tally.old.odd.items }
-    ensures odd { (k : ℕ) → k < length topology.now.polygons → slice_index cells.now.floors.polygons.items k ≤ at.y → is_odd_at tally.new k ≡ differ (is_odd_at tally.old k) (pass_oddly (λ c. turns topology.now p k (run_at cells.now.runs.items c.run)) (in_cell (cell_at cells.now.width cells.now.height at) cells.now.celled.items)) }
+    ensures odd { (k : ℕ) → k < length topology.now.polygons
+        → slice_index cells.now.floors.polygons.items k ≤ at.y
+        → is_odd_at tally.new k ≡ differ (is_odd_at tally.old k)
+        (pass_oddly (λ c. turns topology.now p k (run_at cells.now.runs.items c.run))
+        (in_cell (cell_at cells.now.width cells.now.height at) cells.now.celled.items)) }
 {
     let found = cells.at(at);
     for celled in found {
@@ -153,7 +162,11 @@ fn turn_wide(
     requires at { IsOffsetOf p at }
     ensures tally { IsTally tally.new }
     ensures polygons { length tally.new.odd.items ≡ length tally.old.odd.items }
-    ensures odd { (k : ℕ) → k < length topology.now.polygons → slice_index cells.now.floors.polygons.items k ≤ at.y → is_odd_at tally.new k ≡ differ (is_odd_at tally.old k) (pass_oddly (λ n. turns topology.now p k (run_at cells.now.runs.items n)) cells.now.wide.items) }
+    ensures odd { (k : ℕ) → k < length topology.now.polygons
+        → slice_index cells.now.floors.polygons.items k ≤ at.y
+        → is_odd_at tally.new k ≡ differ (is_odd_at tally.old k)
+        (pass_oddly (λ n. turns topology.now p k (run_at cells.now.runs.items n))
+        cells.now.wide.items) }
 {
     let wide = cells.wide();
     for number in wide {
@@ -161,8 +174,8 @@ fn turn_wide(
     }
 }
 
-// Turns each polygon that names the arc of the run, as often as it does, if an odd number of edges of the run are crossed
-// from p and its floor is not above p.
+// Turns each polygon that names the arc of the run, as often as it does, if an odd number of edges
+// of the run are crossed from p and its floor is not above p.
 fn turn_run(tally: &mut Tally, namings: &Namings, topology: &ArcMap, run: Run, p: Point, at: Offset)
     requires tally { IsTally tally.old }
     requires polygons { length tally.old.odd.items ≡ length topology.now.polygons }
@@ -171,7 +184,8 @@ fn turn_run(tally: &mut Tally, namings: &Namings, topology: &ArcMap, run: Run, p
     requires at { IsOffsetOf p at }
     ensures tally { IsTally tally.new }
     ensures polygons { length tally.new.odd.items ≡ length tally.old.odd.items }
-    ensures odd { (k : ℕ) → k < length topology.now.polygons → IsFloored topology.now at.y k run → is_odd_at tally.new k ≡ differ (is_odd_at tally.old k) (turns topology.now p k run) }
+    ensures odd { (k : ℕ) → k < length topology.now.polygons → IsFloored topology.now at.y k run
+        → is_odd_at tally.new k ≡ differ (is_odd_at tally.old k) (turns topology.now p k run) }
 {
     if run.floor > at.y {
         return;
@@ -187,7 +201,8 @@ fn write_point(text: &mut Vec<u8>, k: u32, p: Point)
     requires number { k < 2 ^ 20 }
     requires empty { vec_len text.old ≡ 0 }
     requires room { 64 ≤ vec_capacity text.old }
-    ensures value { text.new.items ≡ text.old.items ++ codes "point " ++ decimal k ++ codes " " ++ signed_decimal p.x ++ codes " " ++ signed_decimal p.y ++ codes " in" }
+    ensures value { text.new.items ≡ text.old.items ++ codes "point " ++ decimal k ++ codes " "
+        ++ signed_decimal p.x ++ codes " " ++ signed_decimal p.y ++ codes " in" }
     ensures short { vec_len text.new ≤ 56 }
     ensures capacity { vec_capacity text.old ≤ vec_capacity text.new }
 {
@@ -200,14 +215,15 @@ fn write_point(text: &mut Vec<u8>, k: u32, p: Point)
     put(text, b" in");
 }
 
-// Adds the numbers of the odd polygons among those that were turned and whose floor is not above y, each after a space, or
-// ` none`.
+// Adds the numbers of the odd polygons among those that were turned and whose floor is not above y,
+// each after a space, or ` none`.
 fn write_faces(text: &mut Vec<u8>, tally: &Tally, floors: &Floors, y: u32)
     requires tally { IsTally tally.now }
     requires floors { length floors.now.polygons.items ≡ length tally.now.odd.items }
     requires few { length tally.now.odd.items ≤ 2 ^ 20 }
     requires room { vec_len text.old + 6 + 8 * length tally.now.odd.items ≤ vec_capacity text.old }
-    ensures value { text.new.items ≡ text.old.items ++ numbers_text (filter (is_face tally.now floors.now y) tally.now.turned.items) }
+    ensures value { text.new.items ≡ text.old.items
+        ++ numbers_text (filter (is_face tally.now floors.now y) tally.now.turned.items) }
     ensures room { vec_len text.new + 1 ≤ vec_capacity text.new }
     ensures capacity { vec_capacity text.old ≤ vec_capacity text.new }
 {
@@ -221,13 +237,16 @@ fn write_faces(text: &mut Vec<u8>, tally: &Tally, floors: &Floors, y: u32)
     }
 }
 
-// Adds the number of the polygon where it is odd and its floor not above y. Tells whether some number is written now.
+// Adds the number of the polygon where it is odd and its floor not above y. Tells whether some
+// number is written now.
 fn visit(text: &mut Vec<u8>, tally: &Tally, floors: &Floors, y: u32, k: u32, some: bool) -> bool
     requires polygon { k < length tally.now.odd.items }
     requires floors { length floors.now.polygons.items ≡ length tally.now.odd.items }
     requires few { k < 2 ^ 20 }
     requires room { vec_len text.old + 8 ≤ vec_capacity text.old }
-    ensures value { (ns : List ℕ) → text.new.items ++ still result (filter (is_face tally.now floors.now y) ns) ≡ text.old.items ++ still some (filter (is_face tally.now floors.now y) (k ∷ ns)) }
+    ensures value { (ns : List ℕ) → text.new.items
+        ++ still result (filter (is_face tally.now floors.now y) ns) ≡ text.old.items
+        ++ still some (filter (is_face tally.now floors.now y) (k ∷ ns)) }
     ensures short { vec_len text.new ≤ vec_len text.old + 8 }
     ensures capacity { vec_capacity text.old ≤ vec_capacity text.new }
 {

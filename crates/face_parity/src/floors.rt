@@ -1,5 +1,6 @@
 //! How far down the polygons of a map go.
-ghost use Rattle.std.specs.Prelude.{◌≡◌, ◌<◌, ◌≤◌, ℕ, Bool, false, IsTrue, IfOk, OnOk, List, [], All, Contains, length, slice_index};
+ghost use Rattle.std.specs.Prelude.{◌≡◌, ◌<◌, ◌≤◌, ℕ, Bool, false, IsTrue, IfOk, OnOk, List, []};
+ghost use Rattle.std.specs.Prelude.{All, Contains, length, slice_index};
 ghost use Rattle.face_parity.specs.Parities.{pass_oddly};
 ghost use Rattle.face_parity.specs.Floors.{AreSpansTo, IsFloorOver, IsSpanOf, ends_along, span_at};
 
@@ -28,8 +29,8 @@ impl Span {
     }
 }
 
-// The floors of the polygons and of the arcs of a map. Below its floor no point is in the polygon, and below the floor of
-// an arc no point is in a polygon that names the arc.
+// The floors of the polygons and of the arcs of a map. Below its floor no point is in the polygon,
+// and below the floor of an arc no point is in a polygon that names the arc.
 #[derive(Drop)]
 pub(crate) struct Floors {
     polygons: Vec<u32>,
@@ -84,8 +85,8 @@ fn spans_of(alloc: Global, topology: &ArcMap) -> Result<Vec<Span>, AllocError>
     Ok(spans)
 }
 
-// A floor of a polygon that names these arcs: the lowest of their positions, or 0 where their ends are not paired, since
-// then the polygon is not closed.
+// A floor of a polygon that names these arcs: the lowest of their positions, or 0 where their ends
+// are not paired, since then the polygon is not closed.
 fn floor_over(ends: &mut Vec<u32>, spans: &[Span], refs: &[u32]) -> Result<u32, AllocError>
     requires { All (λ arc. arc < length spans.now) refs.now }
     ensures { IfOk result (IsFloorOver spans.now refs.now) }
@@ -96,7 +97,8 @@ fn floor_over(ends: &mut Vec<u32>, spans: &[Span], refs: &[u32]) -> Result<u32, 
     if are_paired(ends) { Ok(low) } else { Ok(0) }
 }
 
-// Adds the ends of the arcs with these numbers, and tells a y below which none of them has a position.
+// Adds the ends of the arcs with these numbers, and tells a y below which none of them has a
+// position.
 fn push_ends(ends: &mut Vec<u32>, spans: &[Span], refs: &[u32]) -> Result<u32, AllocError>
     requires arcs { All (λ arc. arc < length spans.now) refs.now }
     requires empty { ends.old.items ≡ [] }
@@ -113,7 +115,8 @@ fn push_ends(ends: &mut Vec<u32>, spans: &[Span], refs: &[u32]) -> Result<u32, A
     Ok(low)
 }
 
-// Whether the first two numbers are equal, and the next two, and so on to the end: then an even number of them pass a test.
+// Whether the first two numbers are equal, and the next two, and so on to the end: then an even
+// number of them pass a test.
 fn are_paired(numbers: &[u32]) -> bool
     ensures { IsTrue result → (test : ℕ → Bool) → pass_oddly test numbers.now ≡ false }
 {

@@ -1,5 +1,6 @@
 //! Which polygons name an arc.
-ghost use Rattle.std.specs.Prelude.{◌≡◌, ◌<◌, ◌≤◌, ◌+◌, ◌++◌, ◌==◌, ℕ, IfOk, OnOk, All, length, map, slice_index, slice_index_or};
+ghost use Rattle.std.specs.Prelude.{◌≡◌, ◌<◌, ◌≤◌, ◌+◌, ◌++◌, ◌==◌, ℕ, IfOk, OnOk, All, length};
+ghost use Rattle.std.specs.Prelude.{map, slice_index, slice_index_or};
 ghost use Rattle.std.specs.List.Sorted.{IsNonDecreasingBy};
 ghost use Rattle.face_parity.specs.Parities.{pass_oddly};
 ghost use Rattle.face_parity.specs.Naming.{is_naming, named_by, IsStartOf, AreNamings};
@@ -20,7 +21,8 @@ pub(crate) struct Naming {
 pub(crate) struct Namings {
     namings: Vec<Naming>,
     starts: Vec<usize>,
-    ghost starts_right: { (arc : ℕ) → arc < length starts.items → IsStartOf namings.items arc (slice_index starts.items arc) },
+    ghost starts_right: { (arc : ℕ) → arc < length starts.items
+        → IsStartOf namings.items arc (slice_index starts.items arc) },
 }
 
 impl Namings {
@@ -42,8 +44,10 @@ impl Namings {
     // The namings of one arc.
     pub fn of_arc(&self, arc: u32) -> &[Naming]
         requires { arc + 1 < length self.now.starts.items }
-        ensures odd { (polygon : ℕ) → pass_oddly (λ n. n.polygon == polygon) result.now ≡ pass_oddly (is_naming arc polygon) self.now.namings.items }
-        ensures below { (count : ℕ) → All (λ n. n.polygon < count) self.now.namings.items → All (λ n. n.polygon < count) result.now }
+        ensures odd { (polygon : ℕ) → pass_oddly (λ n. n.polygon == polygon) result.now
+            ≡ pass_oddly (is_naming arc polygon) self.now.namings.items }
+        ensures below { (count : ℕ) → All (λ n. n.polygon < count) self.now.namings.items
+            → All (λ n. n.polygon < count) result.now }
     {
         let start = self.start_of(arc as usize);
         let end = self.start_of(arc as usize + 1);
@@ -69,11 +73,13 @@ fn push_polygon(namings: &mut Vec<Naming>, arcs: &[u32], polygon: u32) -> Result
     Ok(())
 }
 
-// Where the namings of each arc begin, which stand in order of the arcs, and where the last ones end.
+// Where the namings of each arc begin, which stand in order of the arcs, and where the last ones
+// end.
 fn starts_of(alloc: Global, namings: &[Naming], arcs: u32) -> Result<Vec<usize>, AllocError>
     requires { IsNonDecreasingBy (λ n. n.arc) namings.now }
     ensures whole { IfOk result (λ starts. length starts.items ≡ arcs + 1) }
-    ensures right { IfOk result (λ starts. (arc : ℕ) → arc ≤ arcs → IsStartOf namings.now arc (slice_index starts.items arc)) }
+    ensures right { IfOk result (λ starts. (arc : ℕ) → arc ≤ arcs
+        → IsStartOf namings.now arc (slice_index starts.items arc)) }
 {
     let mut starts = Vec::new(alloc);
     let mut start = 0;

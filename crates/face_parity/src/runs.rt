@@ -3,7 +3,8 @@ ghost use Rattle.std.specs.Prelude.{◌≡◌, ◌<◌, ◌≤◌, ◌+◌, ◌^
 ghost use Rattle.arc_map.specs.Arranged.{arc_at};
 ghost use Rattle.face_parity.specs.Bounds.{IsOffsetOf};
 ghost use Rattle.face_parity.specs.Floors.{AreFloorsOf, IsUnder};
-ghost use Rattle.face_parity.specs.Runs.{AreRunsBefore, AreRunsOf, IsRunIn, is_run_crossed, run_part};
+ghost use Rattle.face_parity.specs.Runs.{AreRunsBefore, AreRunsOf, IsRunIn, is_run_crossed};
+ghost use Rattle.face_parity.specs.Runs.{run_part};
 
 use crate::bounds::{Bounds, Ends, Offset};
 use crate::crossings::is_crossed_oddly;
@@ -15,8 +16,9 @@ use std::alloc::{AllocError, Global};
 // How many edges a run has at most.
 const EDGES: usize = 16;
 
-// The edges of an arc between two of its positions, by their numbers; a box round their positions, the x at which they
-// begin and end, and a y below which no point is in a polygon that names the arc.
+// The edges of an arc between two of its positions, by their numbers; a box round their positions,
+// the x at which they begin and end, and a y below which no point is in a polygon that names the
+// arc.
 #[derive(Clone, Copy)]
 pub(crate) struct Run {
     pub arc: u32,
@@ -94,7 +96,8 @@ fn push_arc(runs: &mut Vec<Run>, map: &ArcMap, floors: &Floors, arc: u32) -> Res
     requires floors { length floors.now.arcs.items ≡ length map.now.arcs }
     requires so_far { AreRunsBefore map.now floors.now arc runs.old.items }
     ensures runs { OnOk result (AreRunsBefore map.now floors.now (arc + 1) runs.new.items) }
-    ensures few { OnOk result (length runs.new.items ≤ length runs.old.items + length (arc_at map.now arc)) }
+    ensures few { OnOk result (length runs.new.items
+        ≤ length runs.old.items + length (arc_at map.now arc)) }
 {
     let positions = map.arc(arc);
     let floor = floors.of_arc(arc);

@@ -1,5 +1,6 @@
 //! Bytes and numbers at the end of a text that has room for them.
-ghost use Rattle.std.specs.Prelude.{◌≡◌, ◌<◌, ◌≤◌, ◌+◌, ◌^◌, ◌++◌, IfOk, length, vec_len, vec_capacity, decimal};
+ghost use Rattle.std.specs.Prelude.{◌≡◌, ◌<◌, ◌≤◌, ◌+◌, ◌^◌, ◌++◌, IfOk, length, vec_len};
+ghost use Rattle.std.specs.Prelude.{vec_capacity, decimal};
 ghost use Rattle.std.specs.Fmt.{signed_decimal};
 ghost use Rattle.grid_exact.specs.Geometry.{IsGridNumber};
 

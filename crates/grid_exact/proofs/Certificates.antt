@@ -21,19 +21,27 @@ certify Pair m layers known = record { count = known.count; last = last; start =
         omega (arith, (known.each i (omega arith)).least (j ∷ there.0) (after, on, there.1), there.2)
 
 -- one step falls by 1 at most
-pub step_falls : (Pair : ℕ → ℕ → Type 0) (m r i j : ℕ) (layers : List ℕ) → Certifies Pair m r layers → i < j → j ≤ m → Pair i j → slice_index layers i ≤ slice_index layers j + 1
+pub step_falls : (Pair : ℕ → ℕ → Type 0) (m r i j : ℕ) (layers : List ℕ) → Certifies Pair m r layers → i < j → j ≤ m → Pair i j
+    → slice_index layers i ≤ slice_index layers j + 1
 step_falls Pair m r i j layers sure after below on = elim (cases_lt (slice_index layers j + 1) (slice_index layers i)) [
   | inl gap ↦ absurd (sure.falls i j after below gap on)
   | inr near ↦ near
 ]
 
 -- along a way the numbers fall to 0
-down : (Pair : ℕ → ℕ → Type 0) (m r i : ℕ) (layers rest : List ℕ) → Certifies Pair m r layers → LeadsTo Pair m i rest → slice_index layers i ≤ length rest
+down : (Pair : ℕ → ℕ → Type 0) (m r i : ℕ) (layers rest : List ℕ) → Certifies Pair m r layers → LeadsTo Pair m i rest
+    → slice_index layers i ≤ length rest
 down Pair m r i layers [] sure same = omega (arith, sure.last, ap (λ (k : ℕ). slice_index layers k) same)
 down Pair m r i layers (next ∷ rest) sure (after, on, leads) =
-    omega (arith, step_falls Pair m r i next layers sure after (LeadsTo-below Pair m next rest leads) on, down Pair m r next layers rest sure leads)
+    omega (
+      arith,
+      step_falls Pair m r i next layers sure after (LeadsTo-below Pair m next rest leads) on,
+      down Pair m r next layers rest
+          sure leads,
+    )
 
 -- a path has at least as many steps as a certificate says
-pub no_shorter : (Pair : ℕ → ℕ → Type 0) (m r : ℕ) (layers path : List ℕ) → Certifies Pair m r layers → IsPath Pair m path → r + 1 ≤ length path
+pub no_shorter : (Pair : ℕ → ℕ → Type 0) (m r : ℕ) (layers path : List ℕ) → Certifies Pair m r layers → IsPath Pair m path
+    → r + 1 ≤ length path
 no_shorter Pair m r layers [] sure none = absurd none
 no_shorter Pair m r layers (start ∷ rest) sure (zero_start, leads) = omega (arith, sure.start, down Pair m r 0 layers rest sure leads)

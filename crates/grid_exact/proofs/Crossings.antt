@@ -31,15 +31,22 @@ or_turned false false = refl
 -- ---- an edge read backwards
 
 pub crossed_turned : (p a b : Place) → is_crossed p a b ≡ is_crossed p b a
-crossed_turned p a b = or_turned (is_before a p && is_before p b && int_lt (area_of a b p) (pos 0)) (is_before b p && is_before p a && int_lt (area_of b a p) (pos 0))
+crossed_turned p a b = or_turned (is_before a p && is_before p b && int_lt (area_of a b p) (pos 0)) (is_before b p && is_before p a
+    && int_lt (area_of b a p) (pos 0))
 
 pub sideways_turned : (p a b : Place) → is_crossed_sideways p a b ≡ is_crossed_sideways p b a
-sideways_turned p a b = or_turned (is_before (turned a) (turned p) && is_before (turned p) (turned b) && int_lt (pos 0) (area_of a b p)) (is_before (turned b) (turned p) && is_before (turned p) (turned a) && int_lt (pos 0) (area_of b a p))
+sideways_turned p a b = or_turned (is_before (turned a) (turned p) && is_before (turned p) (turned b) && int_lt (pos 0) (area_of a b p))
+    (is_before (turned b) (turned p) && is_before (turned p) (turned a) && int_lt (pos 0) (area_of b a p))
 
 pub sideways_is_turned : (p a b : Place) → is_crossed_sideways p a b ≡ is_crossed (turned p) (turned a) (turned b)
 sideways_is_turned p a b =
-    ap (λ (t : Bool). (is_before (turned a) (turned p) && is_before (turned p) (turned b) && t) || (is_before (turned b) (turned p) && is_before (turned p) (turned a) && int_lt (pos 0) (area_of b a p))) (sym (opposite_sides (area_of (turned a) (turned b) (turned p)) (area_of a b p) (area_of-turned a b p)))
-    ∙ ap (λ (t : Bool). (is_before (turned a) (turned p) && is_before (turned p) (turned b) && int_lt (area_of (turned a) (turned b) (turned p)) (pos 0)) || (is_before (turned b) (turned p) && is_before (turned p) (turned a) && t)) (sym (opposite_sides (area_of (turned b) (turned a) (turned p)) (area_of b a p) (area_of-turned b a p)))
+    ap (λ (t : Bool). (is_before (turned a) (turned p) && is_before (turned p) (turned b) && t)
+    || (is_before (turned b) (turned p) && is_before (turned p) (turned a) && int_lt (pos 0) (area_of b a p)))
+    (sym (opposite_sides (area_of (turned a) (turned b) (turned p)) (area_of a b p) (area_of-turned a b p)))
+    ∙ ap (λ (t : Bool). (is_before (turned a) (turned p) && is_before (turned p) (turned b)
+    && int_lt (area_of (turned a) (turned b) (turned p)) (pos 0))
+    || (is_before (turned b) (turned p) && is_before (turned p) (turned a) && t))
+    (sym (opposite_sides (area_of (turned b) (turned a) (turned p)) (area_of b a p) (area_of-turned b a p)))
 
 -- ---- a point between the ends, past both or before both
 

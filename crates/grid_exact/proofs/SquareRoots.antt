@@ -2,7 +2,8 @@
 --
 -- `above_next`, `next_below`, `above_start` and those behind it serve the loop that finds a root, and `greatest_root` says that it found
 -- one. `within_root` turns a comparison of squares into one of numbers: use it where a test goes by a threshold.
-use Rattle.std.proofs.Common.{◌≡◌, ◌↔◌, ℕ, ◌+◌, ◌*◌, ◌/◌, ◌%◌, ◌^◌, ◌<◌, ◌≤◌, ◌-◌, zero, suc, inl, inr, arith, ℤ, pos, negsuc, ◌+ℤ◌, ◌-ℤ◌, ◌*ℤ◌, neg_ℤ, ◌≤ℤ◌, refl}
+use Rattle.std.proofs.Common.{◌≡◌, ◌↔◌, ℕ, ◌+◌, ◌*◌, ◌/◌, ◌%◌, ◌^◌, ◌<◌, ◌≤◌, ◌-◌, zero, suc, inl, inr, arith, ℤ, pos, negsuc, ◌+ℤ◌, ◌-ℤ◌}
+use Rattle.std.proofs.Common.{◌*ℤ◌, neg_ℤ, ◌≤ℤ◌, refl}
 use Rattle.std.proofs.lemmas.Int.{ints}
 use Rattle.std.proofs.Math.Nat.{div-mul-le_self, div-le_of_le-mul}
 use Rattle.std.proofs.lemmas.Nat.{mul-le, pow-add, shl_whole}
@@ -24,13 +25,17 @@ product_by_gap_below a b gap e = rw e (omega arith)
 
 -- four times a product is at most the square of the sum
 product_in_square : (a b : ℕ) → 4 * (a * b) ≤ (a + b) * (a + b)
-product_in_square a b = elim (cases_lt a b) [ inl h ↦ product_by_gap a b (b - a) (omega arith) | inr h ↦ product_by_gap_below a b (a - b) (omega arith) ]
+product_in_square a b = elim (cases_lt a b) [
+  | inl h ↦ product_by_gap a b (b - a) (omega arith)
+  | inr h ↦ product_by_gap_below a b (a - b) (omega arith)
+]
 
 quotient_below : (n root : ℕ) → n < root * root → n / root < root
 quotient_below n root high =
     elim (cases_lt (n / root) root) [
       | inl below ↦ below
-      | inr over ↦ (let square = mul-le root root (n / root) root over (omega arith) in let part = div-mul-le_self n root in absurd (omega arith))
+      | inr over ↦ (let square = mul-le root root (n / root) root over (omega arith) in let part = div-mul-le_self n root in
+          absurd (omega arith))
     ]
 
 -- Newton's step from above the root of n falls
@@ -75,7 +80,11 @@ quotient_low n k high =
     div-le_of_le-mul (2 ^ (k / 2)) (omega arith)
 
 pub half_low : (n k : ℕ) → 2 ^ k ≤ n → n ≤ 2 ^ 121 → k / 2 ≤ 60
-half_low n k low high = elim (cases_lt 121 k) [ inl h ↦ (let past : 122 ≤ k = omega arith in let more : 2 ^ 122 ≤ 2 ^ k = pow_mono past in absurd (omega arith)) | inr h ↦ omega arith ]
+half_low n k low high = elim (cases_lt 121 k) [
+  | inl h ↦ (let past : 122 ≤ k = omega arith in let more : 2 ^ 122 ≤ 2 ^ k = pow_mono past in
+      absurd (omega arith))
+  | inr h ↦ omega arith
+]
 
 -- a power of 2 times 2, as it is computed
 pub doubled : (k : ℕ) → k ≤ 60 → (2 * 2 ^ k) % 2 ^ 128 ≡ 2 * 2 ^ k

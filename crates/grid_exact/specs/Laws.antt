@@ -7,7 +7,8 @@ use Rattle.grid_exact.specs.Views.{IsView, same_view, negated}
 
 -- a closed walk that p is not on is crossed and crossed sideways with the same parity
 abbrev pub ClosedWalksAgree : Type 0
-ClosedWalksAgree = (p v : Place) (ws : List Place) → IsOff p v ws → end_of v ws ≡ v → is_odd (count_edges (is_crossed p) v ws) ≡ is_odd (count_edges (is_crossed_sideways p) v ws)
+ClosedWalksAgree = (p v : Place) (ws : List Place) → IsOff p v ws → end_of v ws ≡ v
+    → is_odd (count_edges (is_crossed p) v ws) ≡ is_odd (count_edges (is_crossed_sideways p) v ws)
 
 -- the plane as it is, with its axes exchanged, and turned half round are views, and so is a view of a view
 pub record ArePlaneViews : Type 0 where

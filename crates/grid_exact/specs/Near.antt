@@ -15,7 +15,8 @@ pub record IsNear (wx wy : ℤ) (a b p : Place) (e : ℤ) : Type 0 where
   pub whole : pos 1 ≤ℤ denominator
   pub from_start : pos 0 ≤ℤ numerator
   pub to_end : numerator ≤ℤ denominator
-  pub near : (square_of (wx *ℤ (denominator *ℤ (p.x -ℤ a.x) -ℤ numerator *ℤ (b.x -ℤ a.x))) +ℤ square_of (wy *ℤ (denominator *ℤ (p.y -ℤ a.y) -ℤ numerator *ℤ (b.y -ℤ a.y)))) ≤ℤ (square_of denominator *ℤ square_of e)
+  pub near : (square_of (wx *ℤ (denominator *ℤ (p.x -ℤ a.x) -ℤ numerator *ℤ (b.x -ℤ a.x))) +ℤ square_of
+      (wy *ℤ (denominator *ℤ (p.y -ℤ a.y) -ℤ numerator *ℤ (b.y -ℤ a.y)))) ≤ℤ (square_of denominator *ℤ square_of e)
 
 -- t is the square root of n, rounded down
 pub record IsGreatestRoot (n t : ℤ) : Type 0 where

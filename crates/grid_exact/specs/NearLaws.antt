@@ -5,7 +5,8 @@ use Rattle.grid_exact.specs.Near.{IsNear, IsGreatestRoot, weighted}
 
 -- to be near with weights is to be near without, at the weighted places
 abbrev pub NearIsWithinOfWeighted : Type 0
-NearIsWithinOfWeighted = (wx wy : ℤ) (a b p : Place) (e : ℤ) → IsNear wx wy a b p e ↔ IsWithin (weighted wx wy a) (weighted wx wy b) (weighted wx wy p) e
+NearIsWithinOfWeighted = (wx wy : ℤ) (a b p : Place) (e : ℤ) → IsNear wx wy a b p e
+    ↔ IsWithin (weighted wx wy a) (weighted wx wy b) (weighted wx wy p) e
 
 -- with both weights 1 the two notions are one
 abbrev pub NearByOneIsWithin : Type 0
@@ -13,4 +14,5 @@ NearByOneIsWithin = (a b p : Place) (e : ℤ) → IsNear (pos 1) (pos 1) a b p e
 
 -- beside a segment, an area is at most the threshold in size exactly where the point is within the bound
 abbrev pub BesideIsWithinByThreshold : Type 0
-BesideIsWithinByThreshold = (a b p : Place) (e t : ℤ) → pos 0 <ℤ dot_of a b p → dot_of a b p <ℤ length2_of a b → IsGreatestRoot (square_of e *ℤ length2_of a b) t → ((neg_ℤ t ≤ℤ area_of a b p) × (area_of a b p ≤ℤ t)) ↔ IsWithin a b p e
+BesideIsWithinByThreshold = (a b p : Place) (e t : ℤ) → pos 0 <ℤ dot_of a b p → dot_of a b p <ℤ length2_of a b
+    → IsGreatestRoot (square_of e *ℤ length2_of a b) t → ((neg_ℤ t ≤ℤ area_of a b p) × (area_of a b p ≤ℤ t)) ↔ IsWithin a b p e

@@ -17,7 +17,8 @@ pub record IsView (view : Place → Place) : Type 0 where
   pub common_back : (a b c d : Place) → CommonPoint (view a) (view b) (view c) (view d) → CommonPoint a b c d
   pub on_back : (a b p : Place) → IsOnSegment (view a) (view b) (view p) → IsOnSegment a b p
   -- from a point on none of its edges, a closed walk is crossed with the same parity
-  pub parity : (p v : Place) (ws : List Place) → IsOff p v ws → end_of v ws ≡ v → is_odd (count_edges (is_crossed p) v ws) ≡ is_odd (count_edges (is_crossed (view p)) (view v) (map view ws))
+  pub parity : (p v : Place) (ws : List Place) → IsOff p v ws → end_of v ws ≡ v
+      → is_odd (count_edges (is_crossed p) v ws) ≡ is_odd (count_edges (is_crossed (view p)) (view v) (map view ws))
 
 -- the plane as it is
 abbrev pub same_view : Place → Place

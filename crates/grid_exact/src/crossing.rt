@@ -6,15 +6,16 @@ ghost use Rattle.grid_exact.specs.Walks.{count_edges, end_of, is_odd, differ};
 use crate::measure::area;
 use crate::point::Point;
 
-/// Whether the edge from a to b is crossed from p: by a ray that goes straight up from p, tilted so little that it
-/// meets no point of the grid. An edge from a point to itself never is.
+/// Whether the edge from a to b is crossed from p: by a ray that goes straight up from p, tilted so
+/// little that it meets no point of the grid. An edge from a point to itself never is.
 pub fn is_edge_crossed(p: Point, a: Point, b: Point) -> bool
     ensures { result ≡ is_crossed p a b }
 {
     is_edge_passed(p, a, b) || is_edge_passed(p, b, a)
 }
 
-/// Whether an odd number of edges of the walk from the first point along the rest are crossed from p.
+/// Whether an odd number of edges of the walk from the first point along the rest are crossed from
+/// p.
 pub fn is_walk_crossed_oddly(first: Point, rest: &[Point], p: Point) -> bool
     ensures { result ≡ is_odd (count_edges (is_crossed p) first rest.now) }
 {
@@ -27,8 +28,8 @@ pub fn is_walk_crossed_oddly(first: Point, rest: &[Point], p: Point) -> bool
     odd
 }
 
-/// Whether an odd number of edges of the closed walk from the first point along the rest and back to the first are
-/// crossed from p.
+/// Whether an odd number of edges of the closed walk from the first point along the rest and back
+/// to the first are crossed from p.
 pub fn is_closed_walk_crossed_oddly(first: Point, rest: &[Point], p: Point) -> bool
     ensures { result ≡ is_odd (count_edges (is_crossed p) first (rest.now ++ first ∷ [])) }
 {

@@ -15,8 +15,9 @@ pub(crate) fn root_of(n: u128) -> u128
     root
 }
 
-// A number that is not below the root of n, and above it by an eighth or so. Where n is p * p times a number m from
-// 1 to 4, with a power of 2 as p, the root is p times that of m, and (6 + 3 * m) / 8 is close above the root of m.
+// A number that is not below the root of n, and above it by an eighth or so. Where n is p * p times
+// a number m from 1 to 4, with a power of 2 as p, the root is p times that of m, and (6 + 3 * m) /
+// 8 is close above the root of m.
 fn above_root(n: u128) -> u128
     requires { n ≤ 2 ^ 121 }
     ensures above { n < (result + 1) * (result + 1) }

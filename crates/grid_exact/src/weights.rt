@@ -1,5 +1,6 @@
 //! The weights of the two axes, and what they do to points.
-ghost use Rattle.std.specs.Prelude.{◌≡◌, ◌^◌, ◌≤◌, ◌↔◌, IsSome, IfSome, MatchOption, All, length, pos};
+ghost use Rattle.std.specs.Prelude.{◌≡◌, ◌^◌, ◌≤◌, ◌↔◌, IsSome, IfSome, MatchOption, All, length};
+ghost use Rattle.std.specs.Prelude.{pos};
 ghost use Rattle.grid_exact.specs.Geometry.{IsOnGrid};
 ghost use Rattle.grid_exact.specs.Near.{weighted};
 ghost use Rattle.grid_exact.specs.Weights.{IsWeight, StaysOnGrid, IsFirstOff};
@@ -61,7 +62,8 @@ impl Weights {
         self.y
     }
 
-    /// The point with x times the weight across and y times the weight up, or None where that is off the grid.
+    /// The point with x times the weight across and y times the weight up, or None where that is
+    /// off the grid.
     pub fn apply(self, p: Point) -> Option<Point>
         ensures on_grid { IsSome result ↔ IsOnGrid (weighted self.x self.y p) }
         ensures value { IfSome result (λ q. q ≡ weighted self.x self.y p) }
@@ -71,7 +73,8 @@ impl Weights {
         Point::new(self.x() * p.x(), self.y() * p.y())
     }
 
-    /// The place in the list, from 0, of the first point that `apply` refuses, or None where it refuses none.
+    /// The place in the list, from 0, of the first point that `apply` refuses, or None where it
+    /// refuses none.
     pub fn first_off(self, list: &[Point]) -> Option<u32>
         requires { length list.now ≤ 2 ^ 20 }
         ensures { MatchOption result (All (StaysOnGrid self) list.now) (IsFirstOff self list.now) }

@@ -1,11 +1,13 @@
 //! The same tests of one place after another.
-ghost use Rattle.std.specs.Prelude.{◌≡◌, ◌↔◌, ◌+◌, ◌<◌, ◌≤◌, IsTrue, IsNone, IfSome, length, pos, ◌<ℤ◌};
+ghost use Rattle.std.specs.Prelude.{◌≡◌, ◌↔◌, ◌+◌, ◌<◌, ◌≤◌, IsTrue, IsNone, IfSome, length, pos};
+ghost use Rattle.std.specs.Prelude.{◌<ℤ◌};
 ghost use Rattle.grid_exact.specs.Geometry.{area_of, IsWithin};
 ghost use Rattle.lane_kernels.specs.Places.{AreCoordinates, EachBetween, IsFirstOff, place_at};
 
 use grid_exact::{Bound, Point, area, within};
 
-/// The point with the coordinates at the place k, from 0, of two lists of coordinates in grid units.
+/// The point with the coordinates at the place k, from 0, of two lists of coordinates in grid
+/// units.
 #[inline(always)]
 pub fn point_at(xs: &[i64], ys: &[i64], k: usize) -> Point
     requires coordinates { AreCoordinates xs.now ys.now }
@@ -18,7 +20,8 @@ pub fn point_at(xs: &[i64], ys: &[i64], k: usize) -> Point
     }
 }
 
-// Whether the places from the number `from` to before the number `to` are within the bound of the segment ab.
+// Whether the places from the number `from` to before the number `to` are within the bound of the
+// segment ab.
 pub(crate) fn each_within(
     a: Point,
     b: Point,
@@ -40,7 +43,8 @@ pub(crate) fn each_within(
     true
 }
 
-// The least number from `from` to before `to` of a place that is not strictly to the left of the way from a to b.
+// The least number from `from` to before `to` of a place that is not strictly to the left of the
+// way from a to b.
 pub(crate) fn first_not_left(
     a: Point,
     b: Point,

@@ -17,8 +17,8 @@ pub enum Hand {
     Right,
 }
 
-/// The least place, from 0, in the lists of coordinates of a point that is not strictly on this side of the way from a to
-/// b; None where each is. The coordinates are in grid units.
+/// The least place, from 0, in the lists of coordinates of a point that is not strictly on this
+/// side of the way from a to b; None where each is. The coordinates are in grid units.
 pub fn first_off_side(a: Point, b: Point, xs: &[i64], ys: &[i64], hand: Hand) -> Option<usize>
     requires { AreCoordinates xs.now ys.now }
     ensures none { IsNone result ↔ EachPlace (IsOnSide hand a b) xs.now ys.now }
@@ -33,7 +33,8 @@ pub fn first_off_side(a: Point, b: Point, xs: &[i64], ys: &[i64], hand: Hand) ->
 fn first_off_left(a: Point, b: Point, xs: &[i64], ys: &[i64]) -> Option<usize>
     requires { AreCoordinates xs.now ys.now }
     ensures none { IsNone result ↔ EachPlace (λ p. pos 0 <ℤ area_of a b p) xs.now ys.now }
-    ensures first { IfSome result (IsFirstOff 0 (length xs.now) (λ p. pos 0 <ℤ area_of a b p) xs.now ys.now) }
+    ensures first { IfSome result (IsFirstOff 0 (length xs.now) (λ p. pos 0 <ℤ area_of a b p) xs.now
+        ys.now) }
 {
     let count = xs.len();
     let mut at = 0;

@@ -7,11 +7,12 @@ use crate::lanes::{LANES, four_in_band};
 use crate::plain::each_within;
 use grid_exact::{Bound, Point, length2, threshold};
 
-// Fewer places than this are tested one after another, which took less time there than the root that the lanes need.
+// Fewer places than this are tested one after another, which took less time there than the root
+// that the lanes need.
 const FEW: usize = 64;
 
-/// Whether each point of the lists of coordinates is within the bound of the closed segment ab. The ends a and b may be
-/// equal. All numbers are in grid units.
+/// Whether each point of the lists of coordinates is within the bound of the closed segment ab. The
+/// ends a and b may be equal. All numbers are in grid units.
 pub fn all_within(a: Point, b: Point, xs: &[i64], ys: &[i64], bound: Bound) -> bool
     requires { AreCoordinates xs.now ys.now }
     ensures { IsTrue result ↔ EachPlace (λ p. IsWithin a b p bound) xs.now ys.now }

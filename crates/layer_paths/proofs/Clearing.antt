@@ -16,7 +16,8 @@ row_clear old new i j h small =
     ap (λ (w : ℕ). bit_at w (j % 64) == 1) (h.inside (16 * i + j / 64) (omega arith) (omega arith))
     ∙ ap (λ (b : ℕ). b == 1) (bit_at-zero (j % 64))
 
-pub row_stays : (old new : List ℕ) (i a b : ℕ) → AreCleared old new (16 * i) (16 * (i + 1)) → b < 1024 → a ≢ i → has_bit new a b ≡ has_bit old a b
+pub row_stays : (old new : List ℕ) (i a b : ℕ) → AreCleared old new (16 * i) (16 * (i + 1)) → b < 1024 → a ≢ i
+    → has_bit new a b ≡ has_bit old a b
 row_stays old new i a b h small other =
     let out : (16 * a + b / 64 < 16 * i) ⊎ (16 * (i + 1) ≤ 16 * a + b / 64) = outside i a b small other in
     ap (λ (w : ℕ). bit_at w (b % 64) == 1) (h.outside (16 * a + b / 64) out)

@@ -1,7 +1,9 @@
 -- The search for the next set bit of a row, word by word.
-use Rattle.std.proofs.Common.{◌≡◌, ℕ, ◌+◌, ◌*◌, ◌/◌, ◌-◌, ◌%◌, ◌^◌, ◌<◌, ◌≤◌, min, List, slice_index, Bool, ◌==◌, IsTrue, w64, bit_and, refl, arith, ap, sym, ◌∙◌, subst, inl, inr}
+use Rattle.std.proofs.Common.{◌≡◌, ℕ, ◌+◌, ◌*◌, ◌/◌, ◌-◌, ◌%◌, ◌^◌, ◌<◌, ◌≤◌, min, List, slice_index, Bool, ◌==◌, IsTrue, w64, bit_and}
+use Rattle.std.proofs.Common.{refl, arith, ap, sym, ◌∙◌, subst, inl, inr}
 use Rattle.std.proofs.lemmas.Bool.{cases_lt, false≢true}
-use Rattle.std.proofs.lemmas.Nat.Bits.{bit_at-zero, bit_at-trailing_zeros, bit_at_and, bit_at-lt, ones_shl, bit_at_mask_below, bit_at_mask_inside}
+use Rattle.std.proofs.lemmas.Nat.Bits.{bit_at-zero, bit_at-trailing_zeros, bit_at_and, bit_at-lt, ones_shl, bit_at_mask_below}
+use Rattle.std.proofs.lemmas.Nat.Bits.{bit_at_mask_inside}
 use Rattle.std.specs.Int.{bit_at, trailing_zeros}
 use Rattle.std.specs.Int.Count.{trailing_of_zero}
 use Rattle.layer_paths.specs.Bits.{has_bit, HasBit, NoneSet, IsNextBit}
@@ -20,29 +22,35 @@ bit_there words i at n small =
     ∙ ap (λ (k : ℕ). bit_at (slice_index words (16 * i + at)) k == 1) place
 
 -- where the bits of the word are clear up to a place, none is set in their columns
-none_more : (words : List ℕ) (i from at word to : ℕ) → to ≤ 64 → IsWordFrom words i from at word → ((n : ℕ) → n < to → bit_at word n ≡ 0) → NoneSet words i from (64 * at) → NoneSet words i from (64 * at + to)
+none_more : (words : List ℕ) (i from at word to : ℕ) → to ≤ 64 → IsWordFrom words i from at word → ((n : ℕ) → n < to → bit_at word n ≡ 0)
+    → NoneSet words i from (64 * at) → NoneSet words i from (64 * at + to)
 none_more words i from at word to fits here clear passed j after before on = elim (cases_lt j (64 * at)) [
   | inl earlier ↦ passed j after earlier on
   | inr later ↦
       let n = j - 64 * at in
       let column : j ≡ 64 * at + n = omega arith in
-      let is_clear : bit_at (slice_index words (16 * i + at)) n ≡ 0 = sym (here.behind n (omega arith) (omega arith)) ∙ clear n (omega arith) in
+      let is_clear : bit_at (slice_index words (16 * i + at)) n ≡ 0 = sym (here.behind n (omega arith) (omega arith))
+      ∙ clear n (omega arith) in
       let P : Bool → Type 0 = λ b. IsTrue b in
       let Q : ℕ → Type 0 = λ b. IsTrue (b == 1) in
       false≢true (subst Q is_clear (subst P (ap (λ (k : ℕ). has_bit words i k) column ∙ bit_there words i at n (omega arith)) on))
 ]
 
 -- what was found, cut at the end
-found_below : (words : List ℕ) (i from end next : ℕ) → from ≤ next → from ≤ end → (next < end → HasBit words i next) → NoneSet words i from next → IsNextBit words i from end (min end next)
+found_below : (words : List ℕ) (i from end next : ℕ) → from ≤ next → from ≤ end → (next < end → HasBit words i next)
+    → NoneSet words i from next → IsNextBit words i from end (min end next)
 found_below words i from end next after order on none = record {
   after = omega arith;
   within = omega arith;
-  on = λ before. let same : next ≡ min end next = omega arith in let P : ℕ → Type 0 = λ k. HasBit words i k in subst P same (on (omega arith));
+  on = λ before. let same : next ≡ min end next = omega arith in let P : ℕ
+      → Type 0 = λ k. HasBit words i k in subst P same (on (omega arith));
   none = λ j later earlier. none j later (omega arith);
 }
 
 -- the lowest set bit of the word is the next one of the row, unless the end comes before it
-pub next_found : (words : List ℕ) (i from end at word : ℕ) → from ≤ end → word < 2 ^ 64 → (word ≡ 0 → end ≤ 64 * (at + 1)) → IsWordFrom words i from at word → NoneSet words i from (64 * at) → IsNextBit words i from end (min end (64 * at + trailing_zeros w64 word))
+pub next_found : (words : List ℕ) (i from end at word : ℕ) → from ≤ end → word < 2 ^ 64 → (word ≡ 0 → end ≤ 64 * (at + 1))
+    → IsWordFrom words i from at word → NoneSet words i from (64 * at)
+    → IsNextBit words i from end (min end (64 * at + trailing_zeros w64 word))
 next_found words i from end at word order fits last here passed = elim (cases_lt 0 word) [
   | inl some ↦
       let lowest = bit_at-trailing_zeros w64 word some fits in
@@ -55,7 +63,8 @@ next_found words i from end at word order fits last here passed = elim (cases_lt
       let Q : ℕ → Type 0 = λ b. IsTrue (b == 1) in
       let P : Bool → Type 0 = λ b. IsTrue b in
       let on : HasBit words i (64 * at + place) = subst P (sym (bit_there words i at place lowest.0)) (subst Q (sym bit) refl) in
-      found_below words i from end (64 * at + place) after order (λ before. on) (none_more words i from at word place (omega (arith, lowest.0)) here lowest.2 passed)
+      found_below words i from end (64 * at + place) after order (λ before. on)
+      (none_more words i from at word place (omega (arith, lowest.0)) here lowest.2 passed)
   | inr none ↦
       let zero_word : word ≡ 0 = omega arith in
       let all : trailing_zeros w64 word ≡ 64 = ap (λ (n : ℕ). trailing_zeros w64 n) zero_word ∙ trailing_of_zero 64 in
@@ -68,7 +77,8 @@ next_found words i from end at word order fits last here passed = elim (cases_lt
 ]
 
 -- the word behind a word with no bit set
-pub word_more : (words : List ℕ) (i from at word : ℕ) → word ≡ 0 → IsWordFrom words i from at word → NoneSet words i from (64 * at) → NoneSet words i from (64 * (at + 1))
+pub word_more : (words : List ℕ) (i from at word : ℕ) → word ≡ 0 → IsWordFrom words i from at word → NoneSet words i from (64 * at)
+    → NoneSet words i from (64 * (at + 1))
 word_more words i from at word zero_word here passed =
     let clear : (n : ℕ) → n < 64 → bit_at word n ≡ 0 = λ n small. ap (λ (w : ℕ). bit_at w n) zero_word ∙ bit_at-zero n in
     let up : 64 * at + 64 ≡ 64 * (at + 1) = omega arith in

@@ -10,7 +10,8 @@ use Rattle.map_gen.specs.Make.{list_of, position, wavy_text}
 abbrev pub left : (ℕ → List ℕ) → ℕ → ℕ → List ℕ
 left f k n = behind_commas (map f (range_with_len k (n - k)))
 
-left-suc : (f : ℕ → List ℕ) (k m : ℕ) → behind_commas (map f (range_with_len k (suc m))) ≡ codes "," ++ f k ++ behind_commas (map f (range_with_len (k + 1) m))
+left-suc : (f : ℕ → List ℕ) (k m : ℕ) → behind_commas (map f (range_with_len k (suc m))) ≡ codes "," ++ f k
+    ++ behind_commas (map f (range_with_len (k + 1) m))
 left-suc f k m = refl
 
 pub left-at : (f : ℕ → List ℕ) (k n : ℕ) → k < n → left f k n ≡ codes "," ++ f k ++ left f (k + 1) n
@@ -26,12 +27,14 @@ list-begins f zero h = absurd (omega arith)
 list-begins f (suc m) h = let same : suc m - 1 ≡ m = omega arith in rw same refl
 
 -- the text so far and what is left make up the whole, also after the next part behind a comma
-pub goes-on : (before comma after part left more whole : List ℕ) → comma ≡ before ++ codes "," → after ≡ comma ++ part → left ≡ codes "," ++ part ++ more → before ++ left ≡ whole → after ++ more ≡ whole
+pub goes-on : (before comma after part left more whole : List ℕ) → comma ≡ before ++ codes "," → after ≡ comma ++ part
+    → left ≡ codes "," ++ part ++ more → before ++ left ≡ whole → after ++ more ≡ whole
 goes-on before comma after part left more whole p q r s =
     let split = rw r at s in
     rw (q, p) (simp append_assoc (simp append_assoc at split))
 
-pub list-done : (f : ℕ → List ℕ) (k n : ℕ) (before written closed : List ℕ) → 0 < n → n ≤ k → written ++ left f k n ≡ before ++ codes "[" ++ f 0 ++ left f 1 n → closed ≡ written ++ codes "]" → closed ≡ before ++ list_of f n
+pub list-done : (f : ℕ → List ℕ) (k n : ℕ) (before written closed : List ℕ) → 0 < n → n ≤ k
+    → written ++ left f k n ≡ before ++ codes "[" ++ f 0 ++ left f 1 n → closed ≡ written ++ codes "]" → closed ≡ before ++ list_of f n
 list-done f k n before written closed some past whole close =
     let end : written ≡ before ++ codes "[" ++ f 0 ++ left f 1 n = simp append-nil at (rw (left-none f k n past) at whole) in
     rw (list-begins f n some, close, end) (simp append_assoc refl)
@@ -44,6 +47,12 @@ pub wavy-list : (rows cols seed arc : ℕ) → wavy_text rows cols seed arc ≡ 
 unfolding wavy_text
 wavy-list rows cols seed arc = refl
 
-pub four-joined : (out a b c d : List ℕ) → ((((((((out ++ codes "[") ++ a) ++ codes ",") ++ b) ++ codes ",") ++ c) ++ codes ",") ++ d) ++ codes "]" ≡ out ++ list_text (a ∷ b ∷ c ∷ d ∷ [])
+pub four-joined : (out a b c d : List ℕ) → ((((((((out ++ codes "[") ++ a) ++ codes ",") ++ b) ++ codes ",") ++ c) ++ codes ",") ++ d)
+    ++ codes "]" ≡ out ++ list_text (a ∷ b ∷ c ∷ d ∷ [])
 four-joined out a b c d =
-    rw (append_assoc a (44 ∷ (b ++ 44 ∷ (c ++ 44 ∷ (d ++ [])))) (93 ∷ []), append_assoc b (44 ∷ (c ++ 44 ∷ (d ++ []))) (93 ∷ []), append_assoc c (44 ∷ (d ++ [])) (93 ∷ []), append_assoc d [] (93 ∷ [])) (simp append_assoc refl)
+    rw (
+      append_assoc a (44 ∷ (b ++ 44 ∷ (c ++ 44 ∷ (d ++ [])))) (93 ∷ []),
+      append_assoc b (44 ∷ (c ++ 44 ∷ (d ++ []))) (93 ∷ []),
+      append_assoc c (44 ∷ (d ++ [])) (93 ∷ []),
+      append_assoc d [] (93 ∷ []),
+    ) (simp append_assoc refl)

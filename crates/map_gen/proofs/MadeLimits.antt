@@ -1,5 +1,6 @@
 -- The made map is a map: no two neighbours of an arc are equal, the rings name arcs, and it is within the limits.
-use Rattle.std.proofs.Common.{◌≡◌, ◌≢◌, inl, inr, ◌∙◌, ℕ, zero, suc, ◌+◌, ◌*◌, ◌/◌, ◌%◌, ◌<◌, ◌≤◌, pos, All, List, [], length, map, sym, subst, arith}
+use Rattle.std.proofs.Common.{◌≡◌, ◌≢◌, inl, inr, ◌∙◌, ℕ, zero, suc, ◌+◌, ◌*◌, ◌/◌, ◌%◌, ◌<◌, ◌≤◌, pos, All, List, [], length, map, sym}
+use Rattle.std.proofs.Common.{subst, arith}
 use Rattle.std.specs.List.{range_with_len, sum_by}
 use Rattle.std.proofs.lemmas.Int.{ints}
 use Rattle.std.proofs.lemmas.Nat.{mul-le, div_below}
@@ -41,7 +42,8 @@ neighbours_differ rows cols seed arc k same =
     ]
 
 positions_are_arc : (rows cols seed arc : ℕ) → IsArc (positions rows cols seed arc)
-positions_are_arc rows cols seed arc = let step = neighbours_differ rows cols seed arc in (step 0, (step 1, (step 2, (step 3, (step 4, (step 5, (step 6, (step 7, tt))))))))
+positions_are_arc rows cols seed arc = let step = neighbours_differ rows cols seed arc in
+    (step 0, (step 1, (step 2, (step 3, (step 4, (step 5, (step 6, (step 7, tt))))))))
 
 -- ---- rings name arcs
 
@@ -49,7 +51,8 @@ row_inside : (rows cols cell : ℕ) → cell < rows * cols → cell / cols < row
 row_inside rows zero cell inside = absurd (omega arith)
 row_inside rows (suc n) cell inside = div_below cell (suc n) rows (omega arith) inside
 
-ring_names : (rows cols cell count : ℕ) → cell < rows * cols → arc_count rows cols ≡ count → All (λ arc. arc < count) (ring_of rows cols cell)
+ring_names : (rows cols cell count : ℕ) → cell < rows * cols → arc_count rows cols ≡ count
+    → All (λ arc. arc < count) (ring_of rows cols cell)
 ring_names rows cols cell count inside size =
     let row = row_inside rows cols cell inside in
     let below : cell < count = omega arith in
@@ -75,16 +78,20 @@ made_maps_are_maps rows cols seed few_rows few_cols =
     let arcs = map (positions rows cols seed) (range_with_len 0 (arc_count rows cols)) in
     let rings = map (ring_of rows cols) (range_with_len 0 (rows * cols)) in
     let arcs_size : length arcs ≡ arc_count rows cols = length-map-range_with_len (positions rows cols seed) 0 (arc_count rows cols) in
-    let towns_size : length (map (town rows cols seed) (range_with_len 0 (across_count rows cols))) ≡ across_count rows cols = length-map-range_with_len (town rows cols seed) 0 (across_count rows cols) in
+    let towns_size : length (map (town rows cols seed) (range_with_len 0 (across_count rows cols))) ≡ across_count rows cols =
+    length-map-range_with_len (town rows cols seed) 0 (across_count rows cols) in
     let rings_size : length rings ≡ rows * cols = length-map-range_with_len (ring_of rows cols) 0 (rows * cols) in
     let few = few_arcs rows cols few_rows few_cols in
     let few_rings = few_cells rows cols few_rows few_cols in
     let few_points = few_towns rows cols few_rows few_cols in
-    let most : sum_by length arcs ≤ length arcs * 9 = sum_by-le length 9 arcs (all_made (λ (ps : List Place). length ps ≤ 9) (positions rows cols seed) (arc_count rows cols) [] (λ k _. omega arith)) in
-    let most_named : sum_by length rings ≤ length rings * 4 = sum_by-le length 4 rings (all_made (λ (arcs : List ℕ). length arcs ≤ 4) (ring_of rows cols) (rows * cols) [] (λ k _. omega arith)) in
+    let most : sum_by length arcs ≤ length arcs * 9 = sum_by-le length 9 arcs
+    (all_made (λ (ps : List Place). length ps ≤ 9) (positions rows cols seed) (arc_count rows cols) [] (λ k _. omega arith)) in
+    let most_named : sum_by length rings ≤ length rings * 4 = sum_by-le length 4 rings
+    (all_made (λ (arcs : List ℕ). length arcs ≤ 4) (ring_of rows cols) (rows * cols) [] (λ k _. omega arith)) in
     record {
       arcs = all_made IsArc (positions rows cols seed) (arc_count rows cols) [] (λ k _. positions_are_arc rows cols seed k);
-      names = all_made (All (λ arc. arc < length arcs)) (ring_of rows cols) (rows * cols) [] (λ k inside. ring_names rows cols k (length arcs) inside (sym arcs_size));
+      names = all_made (All (λ arc. arc < length arcs)) (ring_of rows cols) (rows * cols) [] (λ k inside.
+          ring_names rows cols k (length arcs) inside (sym arcs_size));
       few_arcs = omega arith;
       few_positions = omega arith;
       few_points = omega arith;

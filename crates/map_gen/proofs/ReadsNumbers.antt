@@ -1,5 +1,6 @@
 -- The coordinates of the made positions are small, and two neighbours on an arc are apart.
-use Rattle.std.proofs.Common.{◌≡◌, inl, inr, ℕ, ◌+◌, ◌-◌, ◌*◌, ◌/◌, ◌%◌, ◌^◌, ◌<◌, ◌≤◌, false, ◌&&◌, ltb, cond, ℤ, pos, negsuc, ◌+ℤ◌, neg_ℤ, ◌≤ℤ◌, sym, ap, subst, arith, is_eq, Less, Greater, Equal}
+use Rattle.std.proofs.Common.{◌≡◌, inl, inr, ℕ, ◌+◌, ◌-◌, ◌*◌, ◌/◌, ◌%◌, ◌^◌, ◌<◌, ◌≤◌, false, ◌&&◌, ltb, cond, ℤ, pos, negsuc, ◌+ℤ◌, neg_ℤ}
+use Rattle.std.proofs.Common.{◌≤ℤ◌, sym, ap, subst, arith, is_eq, Less, Greater, Equal}
 use Rattle.std.specs.Ordering.{int_eq}
 use Rattle.std.proofs.lemmas.Bool.{cond-true, cond-false, cond_both, cases_lt, lt-ltb, le-ltb, and_left, and_right}
 use Rattle.std.proofs.lemmas.Int.{ints}
@@ -31,14 +32,16 @@ shift-small seed n =
 
 pub offset-small : (seed arc k : ℕ) → IsOffset (offset seed arc k)
 offset-small seed arc k =
-    cond_both (ltb 0 k && ltb k 8) (shift seed (7 * arc + k)) (pos 0) IsOffset (λ e. shift-small seed (7 * arc + k)) (λ e. record { low = omega (arith, ints); high = omega (arith, ints) })
+    cond_both (ltb 0 k && ltb k 8) (shift seed (7 * arc + k)) (pos 0) IsOffset (λ e. shift-small seed (7 * arc + k)) (λ e.
+    record { low = omega (arith, ints); high = omega (arith, ints) })
 
 -- ---- which way an arc runs
 
 pub across-is : (rows cols seed arc k : ℕ) → arc < across_count rows cols → position rows cols seed arc k ≡ across_position cols seed arc k
 across-is rows cols seed arc k before = cond-true (ltb arc (across_count rows cols)) _ _ (lt-ltb arc (across_count rows cols) before)
 
-pub up-is : (rows cols seed arc k : ℕ) → across_count rows cols ≤ arc → position rows cols seed arc k ≡ up_position rows cols seed (arc - across_count rows cols) k
+pub up-is : (rows cols seed arc k : ℕ) → across_count rows cols ≤ arc
+    → position rows cols seed arc k ≡ up_position rows cols seed (arc - across_count rows cols) k
 up-is rows cols seed arc k past = cond-false (ltb arc (across_count rows cols)) _ _ (le-ltb arc (across_count rows cols) past)
 
 -- ---- coordinates
@@ -56,7 +59,8 @@ small-pair x y a b c d = record {
   lower = d;
 }
 
-across-small : (rows cols seed arc k : ℕ) → IsSize rows cols → arc < across_count rows cols → k < 9 → IsSmallPlace (across_position cols seed arc k)
+across-small : (rows cols seed arc k : ℕ) → IsSize rows cols → arc < across_count rows cols → k < 9
+    → IsSmallPlace (across_position cols seed arc k)
 across-small rows cols seed arc k size before few =
     let some : 0 < cols = omega (arith, size.some_cols) in
     let column : arc % cols < cols = mod_below arc cols some in
@@ -78,13 +82,15 @@ up-small rows cols seed arc k size before few =
     small-pair (pos (64 * (arc % (cols + 1))) +ℤ offset seed (across_count rows cols + arc) k) (pos (64 * (arc / (cols + 1)) + 8 * k))
     (omega (arith, ints, off.low)) (omega (arith, ints, x, off.high)) (omega (arith, ints)) (omega (arith, ints, y))
 
-pub position-small : (rows cols seed arc k : ℕ) → IsSize rows cols → arc < arc_count rows cols → k < 9 → IsSmallPlace (position rows cols seed arc k)
+pub position-small : (rows cols seed arc k : ℕ) → IsSize rows cols → arc < arc_count rows cols → k < 9
+    → IsSmallPlace (position rows cols seed arc k)
 position-small rows cols seed arc k size before few =
     elim (cases_lt arc (across_count rows cols)) [
       | inl lower ↦ subst IsSmallPlace (sym (across-is rows cols seed arc k lower)) (across-small rows cols seed arc k size lower few)
       | inr upper ↦
           let within : arc - across_count rows cols < rows * (cols + 1) = omega arith in
-          subst IsSmallPlace (sym (up-is rows cols seed arc k upper)) (up-small rows cols seed (arc - across_count rows cols) k size within few)
+          subst IsSmallPlace (sym (up-is rows cols seed arc k upper))
+          (up-small rows cols seed (arc - across_count rows cols) k size within few)
     ]
 
 one-above : (z : ℤ) → IsSmall z → z ≤ℤ pos 6499 → IsSmall (z +ℤ pos 1)
@@ -108,12 +114,14 @@ pos-apart m n before = ap is_eq (cond-true (ltb m n) Less (cond (ltb n m) Greate
 across-moves : (cols seed arc k : ℕ) → same_place (across_position cols seed arc k) (across_position cols seed arc (k + 1)) ≡ false
 across-moves cols seed arc k =
     let further : 64 * (arc % cols) + 8 * k < 64 * (arc % cols) + 8 * (k + 1) = omega arith in
-    and_left (int_eq (pos (64 * (arc % cols) + 8 * k)) (pos (64 * (arc % cols) + 8 * (k + 1)))) _ (pos-apart (64 * (arc % cols) + 8 * k) (64 * (arc % cols) + 8 * (k + 1)) further)
+    and_left (int_eq (pos (64 * (arc % cols) + 8 * k)) (pos (64 * (arc % cols) + 8 * (k + 1)))) _
+    (pos-apart (64 * (arc % cols) + 8 * k) (64 * (arc % cols) + 8 * (k + 1)) further)
 
 up-moves : (rows cols seed arc k : ℕ) → same_place (up_position rows cols seed arc k) (up_position rows cols seed arc (k + 1)) ≡ false
 up-moves rows cols seed arc k =
     let further : 64 * (arc / (cols + 1)) + 8 * k < 64 * (arc / (cols + 1)) + 8 * (k + 1) = omega arith in
-    and_right _ (int_eq (pos (64 * (arc / (cols + 1)) + 8 * k)) (pos (64 * (arc / (cols + 1)) + 8 * (k + 1)))) (pos-apart (64 * (arc / (cols + 1)) + 8 * k) (64 * (arc / (cols + 1)) + 8 * (k + 1)) further)
+    and_right _ (int_eq (pos (64 * (arc / (cols + 1)) + 8 * k)) (pos (64 * (arc / (cols + 1)) + 8 * (k + 1))))
+    (pos-apart (64 * (arc / (cols + 1)) + 8 * k) (64 * (arc / (cols + 1)) + 8 * (k + 1)) further)
 
 same-apart : (a b c d : Place) → a ≡ c → b ≡ d → same_place c d ≡ false → same_place a b ≡ false
 same-apart a b c d p q apart = rw (p, q) apart
@@ -121,10 +129,12 @@ same-apart a b c d p q apart = rw (p, q) apart
 pub position-moves : (rows cols seed arc k : ℕ) → same_place (position rows cols seed arc k) (position rows cols seed arc (k + 1)) ≡ false
 position-moves rows cols seed arc k =
     elim (cases_lt arc (across_count rows cols)) [
-      | inl lower ↦ same-apart (position rows cols seed arc k) (position rows cols seed arc (k + 1)) (across_position cols seed arc k) (across_position cols seed arc (k + 1))
+      | inl lower ↦ same-apart (position rows cols seed arc k) (position rows cols seed arc (k + 1)) (across_position cols seed arc k)
+          (across_position cols seed arc (k + 1))
           (across-is rows cols seed arc k lower) (across-is rows cols seed arc (k + 1) lower) (across-moves cols seed arc k)
       | inr upper ↦
           let up = arc - across_count rows cols in
-          same-apart (position rows cols seed arc k) (position rows cols seed arc (k + 1)) (up_position rows cols seed up k) (up_position rows cols seed up (k + 1))
+          same-apart (position rows cols seed arc k) (position rows cols seed arc (k + 1)) (up_position rows cols seed up k)
+          (up_position rows cols seed up (k + 1))
           (up-is rows cols seed arc k upper) (up-is rows cols seed arc (k + 1) upper) (up-moves rows cols seed up k)
     ]

@@ -22,7 +22,8 @@ on-corner p row col m n across up e f = same_place p (corner row col) (across �
 no-offset : (n : ℕ) → pos n +ℤ pos 0 ≡ pos n
 no-offset n = omega (arith, ints)
 
-pub across-runs : (rows cols seed arc row col : ℕ) → arc < across_count rows cols → arc ≡ row * cols + col → col < cols → Runs rows cols seed arc (corner row col) (corner row (col + 1))
+pub across-runs : (rows cols seed arc row col : ℕ) → arc < across_count rows cols → arc ≡ row * cols + col → col < cols
+    → Runs rows cols seed arc (corner row col) (corner row (col + 1))
 across-runs rows cols seed arc row col before at within =
     let line : arc / cols ≡ row = ap (λ (n : ℕ). n / cols) at ∙ div-mul-add row cols col within in
     let column : arc % cols ≡ col = ap (λ (n : ℕ). n % cols) at ∙ mod-mul-add row cols col within in
@@ -30,11 +31,14 @@ across-runs rows cols seed arc row col before at within =
     let end : 64 * (arc % cols) + 8 * 8 ≡ 64 * (col + 1) = omega (arith, column) in
     let height : 64 * (arc / cols) ≡ 64 * row = omega (arith, line) in
     record {
-      first = across-is rows cols seed arc 0 before ∙ on-corner _ row col (64 * (arc % cols) + 8 * 0) (64 * (arc / cols)) refl (no-offset (64 * (arc / cols))) begin height;
-      last = across-is rows cols seed arc 8 before ∙ on-corner _ row (col + 1) (64 * (arc % cols) + 8 * 8) (64 * (arc / cols)) refl (no-offset (64 * (arc / cols))) end height;
+      first = across-is rows cols seed arc 0 before ∙ on-corner _ row col (64 * (arc % cols) + 8 * 0) (64 * (arc / cols)) refl
+          (no-offset (64 * (arc / cols))) begin height;
+      last = across-is rows cols seed arc 8 before ∙ on-corner _ row (col + 1) (64 * (arc % cols) + 8 * 8) (64 * (arc / cols)) refl
+          (no-offset (64 * (arc / cols))) end height;
     }
 
-pub up-runs : (rows cols seed arc up row col : ℕ) → arc ≡ across_count rows cols + up → up ≡ row * (cols + 1) + col → col < cols + 1 → Runs rows cols seed arc (corner row col) (corner (row + 1) col)
+pub up-runs : (rows cols seed arc up row col : ℕ) → arc ≡ across_count rows cols + up → up ≡ row * (cols + 1) + col → col < cols + 1
+    → Runs rows cols seed arc (corner row col) (corner (row + 1) col)
 up-runs rows cols seed arc up row col is at within =
     let past : across_count rows cols ≤ arc = omega (arith, is) in
     let number : arc - across_count rows cols ≡ row * (cols + 1) + col = omega (arith, is, at) in
@@ -45,6 +49,8 @@ up-runs rows cols seed arc up row col is at within =
     let end : 64 * (n / (cols + 1)) + 8 * 8 ≡ 64 * (row + 1) = omega (arith, line) in
     let across : 64 * (n % (cols + 1)) ≡ 64 * col = omega (arith, column) in
     record {
-      first = up-is rows cols seed arc 0 past ∙ on-corner _ row col (64 * (n % (cols + 1))) (64 * (n / (cols + 1)) + 8 * 0) (no-offset (64 * (n % (cols + 1)))) refl across begin;
-      last = up-is rows cols seed arc 8 past ∙ on-corner _ (row + 1) col (64 * (n % (cols + 1))) (64 * (n / (cols + 1)) + 8 * 8) (no-offset (64 * (n % (cols + 1)))) refl across end;
+      first = up-is rows cols seed arc 0 past ∙ on-corner _ row col (64 * (n % (cols + 1))) (64 * (n / (cols + 1)) + 8 * 0)
+          (no-offset (64 * (n % (cols + 1)))) refl across begin;
+      last = up-is rows cols seed arc 8 past ∙ on-corner _ (row + 1) col (64 * (n % (cols + 1))) (64 * (n / (cols + 1)) + 8 * 8)
+          (no-offset (64 * (n % (cols + 1)))) refl across end;
     }

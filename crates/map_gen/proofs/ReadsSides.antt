@@ -1,5 +1,6 @@
 -- The four sides of a cell make up a ring of the made arcs.
-use Rattle.std.proofs.Common.{◌≡◌, ℕ, ◌+◌, ◌*◌, ◌/◌, ◌%◌, ◌<◌, List, [], ◌∷◌, length, map, Some, Ok, Result, ℤ, pos, negsuc, refl, sym, ap, ◌∙◌, arith, div-add-mod'}
+use Rattle.std.proofs.Common.{◌≡◌, ℕ, ◌+◌, ◌*◌, ◌/◌, ◌%◌, ◌<◌, List, [], ◌∷◌, length, map, Some, Ok, Result, ℤ, pos, negsuc, refl, sym, ap}
+use Rattle.std.proofs.Common.{◌∙◌, arith, div-add-mod'}
 use Rattle.std.specs.Prelude.{slice_get}
 use Rattle.std.specs.List.{range_with_len}
 use Rattle.std.proofs.lemmas.Nat.{div_below, mod_below, mul-add-lt}
@@ -20,9 +21,11 @@ use Rattle.map_gen.proofs.ReadsPlaces.{corner, Runs, across-runs, up-runs}
 abbrev pub made_arcs : ℕ → ℕ → ℕ → List (List Place)
 made_arcs rows cols seed = map (positions rows cols seed) (range_with_len 0 (arc_count rows cols))
 
-pub made_arc : (rows cols seed arc : ℕ) → arc < arc_count rows cols → slice_get (made_arcs rows cols seed) arc ≡ Some (positions rows cols seed arc)
+pub made_arc : (rows cols seed arc : ℕ) → arc < arc_count rows cols
+    → slice_get (made_arcs rows cols seed) arc ≡ Some (positions rows cols seed arc)
 made_arc rows cols seed arc before =
-    let long : length (made_arcs rows cols seed) ≡ arc_count rows cols = length-map-range_with_len (positions rows cols seed) 0 (arc_count rows cols) in
+    let long : length (made_arcs rows cols seed) ≡ arc_count rows cols =
+    length-map-range_with_len (positions rows cols seed) 0 (arc_count rows cols) in
     let within : arc < length (made_arcs rows cols seed) = omega (arith, long, before) in
     let number : 0 + arc ≡ arc = omega arith in
     slice_get-get_or (made_arcs rows cols seed) arc [] within
@@ -31,12 +34,14 @@ made_arc rows cols seed arc before =
 same-side : (k : ℕ) (a b from to : Place) → a ≡ from → b ≡ to → ◌≡◌ {A = Result Step ReadFault} (Ok (side k a b)) (Ok (side k from to))
 same-side k a b from to p q = rw (p, q) refl
 
-pub side-forwards : (rows cols seed arc : ℕ) (from to : Place) → arc < arc_count rows cols → Runs rows cols seed arc from to → (t : Tree) → IsNumberTree (pos arc) t → IsSideTree (made_arcs rows cols seed) (side arc from to) t
+pub side-forwards : (rows cols seed arc : ℕ) (from to : Place) → arc < arc_count rows cols → Runs rows cols seed arc from to → (t : Tree)
+    → IsNumberTree (pos arc) t → IsSideTree (made_arcs rows cols seed) (side arc from to) t
 side-forwards rows cols seed arc from to before runs t is =
     forwards-read (made_arcs rows cols seed) arc (positions rows cols seed arc) t (made_arc rows cols seed arc before) is
     ∙ same-side arc _ _ from to runs.first runs.last
 
-pub side-backwards : (rows cols seed arc : ℕ) (from to : Place) → arc < arc_count rows cols → Runs rows cols seed arc from to → (t : Tree) → IsNumberTree (negsuc arc) t → IsSideTree (made_arcs rows cols seed) (side arc to from) t
+pub side-backwards : (rows cols seed arc : ℕ) (from to : Place) → arc < arc_count rows cols → Runs rows cols seed arc from to → (t : Tree)
+    → IsNumberTree (negsuc arc) t → IsSideTree (made_arcs rows cols seed) (side arc to from) t
 side-backwards rows cols seed arc from to before runs t is =
     backwards-read (made_arcs rows cols seed) arc (positions rows cols seed arc) t (made_arc rows cols seed arc before) is
     ∙ same-side arc _ _ to from runs.last runs.first
@@ -62,7 +67,8 @@ left-number row cols col = omega arith
 more-lines : (rows cols : ℕ) → (rows + 1) * cols ≡ rows * cols + cols
 more-lines rows cols = omega arith
 
-cell-runs : (rows cols seed cell row col : ℕ) → IsSize rows cols → cell ≡ row * cols + col → row < rows → col < cols → cell / cols ≡ row → CellRuns rows cols seed cell row col
+cell-runs : (rows cols seed cell row col : ℕ) → IsSize rows cols → cell ≡ row * cols + col → row < rows → col < cols → cell / cols ≡ row
+    → CellRuns rows cols seed cell row col
 cell-runs rows cols seed cell row col size at line column quotient =
     let count : across_count rows cols ≡ rows * cols + cols = more-lines rows cols in
     let within : row * cols + col < cols * rows = mul-add-lt row cols col rows line column in
@@ -92,13 +98,15 @@ cell-runs rows cols seed cell row col size at line column quotient =
 abbrev pub ring_numbers : ℕ → ℕ → ℕ → List ℤ
 ring_numbers rows cols cell = pos cell ∷ pos (left_side rows cols cell + 1) ∷ negsuc (cell + cols) ∷ negsuc (left_side rows cols cell) ∷ []
 
-runs-ring : (rows cols seed cell row col : ℕ) → CellRuns rows cols seed cell row col → (t : Tree) → IsListTree (AreTrees IsNumberTree (ring_numbers rows cols cell)) t → IsRingTree (made_arcs rows cols seed) (ring_of rows cols cell) t
+runs-ring : (rows cols seed cell row col : ℕ) → CellRuns rows cols seed cell row col → (t : Tree)
+    → IsListTree (AreTrees IsNumberTree (ring_numbers rows cols cell)) t → IsRingTree (made_arcs rows cols seed) (ring_of rows cols cell) t
 runs-ring rows cols seed cell row col runs t is =
     four-read (made_arcs rows cols seed) cell (left_side rows cols cell + 1) (cell + cols) (left_side rows cols cell)
     (corner row col) (corner row (col + 1)) (corner (row + 1) (col + 1)) (corner (row + 1) col)
     (pos cell) (pos (left_side rows cols cell + 1)) (negsuc (cell + cols)) (negsuc (left_side rows cols cell)) t
     (side-forwards rows cols seed cell (corner row col) (corner row (col + 1)) runs.few_below runs.below)
-    (side-forwards rows cols seed (left_side rows cols cell + 1) (corner row (col + 1)) (corner (row + 1) (col + 1)) runs.few_right runs.right)
+    (side-forwards rows cols seed (left_side rows cols cell + 1) (corner row (col + 1)) (corner (row + 1) (col + 1)) runs.few_right
+    runs.right)
     (side-backwards rows cols seed (cell + cols) (corner (row + 1) col) (corner (row + 1) (col + 1)) runs.few_above runs.above)
     (side-backwards rows cols seed (left_side rows cols cell) (corner row col) (corner (row + 1) col) runs.few_left runs.left)
     is
@@ -110,5 +118,7 @@ cell-at rows cols seed cell size before =
     let column : cell % cols < cols = mod_below cell cols some in
     cell-runs rows cols seed cell (cell / cols) (cell % cols) size (sym (div-add-mod' cell cols)) line column refl
 
-pub cell-ring : (rows cols seed cell : ℕ) → IsSize rows cols → cell < rows * cols → (t : Tree) → IsListTree (AreTrees IsNumberTree (ring_numbers rows cols cell)) t → IsRingTree (made_arcs rows cols seed) (ring_of rows cols cell) t
-cell-ring rows cols seed cell size before = runs-ring rows cols seed cell (cell / cols) (cell % cols) (cell-at rows cols seed cell size before)
+pub cell-ring : (rows cols seed cell : ℕ) → IsSize rows cols → cell < rows * cols → (t : Tree)
+    → IsListTree (AreTrees IsNumberTree (ring_numbers rows cols cell)) t → IsRingTree (made_arcs rows cols seed) (ring_of rows cols cell) t
+cell-ring rows cols seed cell size before = runs-ring rows cols seed cell (cell / cols) (cell % cols)
+    (cell-at rows cols seed cell size before)

@@ -1,5 +1,6 @@
 -- What the walk over a topology reads of a ring of four arcs.
-use Rattle.std.proofs.Common.{◌≡◌, ℕ, ◌+◌, ◌^◌, ◌<◌, ◌≤◌, true, Option, Some, List, [], ◌∷◌, Result, Ok, ℤ, pos, negsuc, refl, ap, ◌∙◌, arith}
+use Rattle.std.proofs.Common.{◌≡◌, ℕ, ◌+◌, ◌^◌, ◌<◌, ◌≤◌, true, Option, Some, List, [], ◌∷◌, Result, Ok, ℤ, pos, negsuc, refl, ap, ◌∙◌}
+use Rattle.std.proofs.Common.{arith}
 use Rattle.std.specs.Prelude.{slice_get, option_map}
 use Rattle.std.proofs.lemmas.Bool.{cond-true}
 use Rattle.grid_exact.specs.Geometry.{Place}
@@ -9,7 +10,8 @@ use Rattle.topo_reader.specs.declared.fault.ReadFault.{ReadFault}
 use Rattle.topo_reader.specs.declared.fault.What.TheVariants as what
 use Rattle.topo_reader.specs.declared.line.Step.{Step}
 use Rattle.topo_reader.specs.Sequence.{and_then, each}
-use Rattle.topo_reader.specs.Geometries.{forwards, backwards, whole_step, found_step, step_of, Line, no_line, is_same, joins, with_step, joined, line_from, closed, PolygonRead, ring_of, rings_of}
+use Rattle.topo_reader.specs.Geometries.{forwards, backwards, whole_step, found_step, step_of, Line, no_line, is_same, joins, with_step}
+use Rattle.topo_reader.specs.Geometries.{joined, line_from, closed, PolygonRead, ring_of, rings_of}
 use Rattle.topo_reader.proofs.Counting.{counted-more}
 use Rattle.topo_reader.proofs.ArcLaws.{same-itself}
 use Rattle.topo_writer.proofs.TreeShapes.{IsNumberTree, IsListTree, AreTrees}
@@ -23,19 +25,24 @@ side k from to = record { arc = k; first = Some from; last = Some to }
 abbrev pub IsSideTree : List (List Place) → Step → Tree → Type 0
 IsSideTree arcs step t = step_of arcs t ≡ Ok step
 
-pub forwards-read : (arcs : List (List Place)) (k : ℕ) (arc : List Place) (t : Tree) → slice_get arcs k ≡ Some arc → IsNumberTree (pos k) t → step_of arcs t ≡ Ok (forwards k arc)
+pub forwards-read : (arcs : List (List Place)) (k : ℕ) (arc : List Place) (t : Tree) → slice_get arcs k ≡ Some arc → IsNumberTree (pos k) t
+    → step_of arcs t ≡ Ok (forwards k arc)
 forwards-read arcs k arc (NumberAt e number) found is =
-    ap (λ (w : Whole). found_step (NumberAt e number) (whole_step arcs w)) is ∙ ap (λ (o : Option (List Place)). found_step (NumberAt e number) (option_map (forwards k) o)) found
+    ap (λ (w : Whole). found_step (NumberAt e number) (whole_step arcs w)) is
+    ∙ ap (λ (o : Option (List Place)). found_step (NumberAt e number) (option_map (forwards k) o)) found
 forwards-read arcs k arc t found is = absurd is
 
-pub backwards-read : (arcs : List (List Place)) (k : ℕ) (arc : List Place) (t : Tree) → slice_get arcs k ≡ Some arc → IsNumberTree (negsuc k) t → step_of arcs t ≡ Ok (backwards k arc)
+pub backwards-read : (arcs : List (List Place)) (k : ℕ) (arc : List Place) (t : Tree) → slice_get arcs k ≡ Some arc
+    → IsNumberTree (negsuc k) t → step_of arcs t ≡ Ok (backwards k arc)
 backwards-read arcs k arc (NumberAt e number) found is =
-    ap (λ (w : Whole). found_step (NumberAt e number) (whole_step arcs w)) is ∙ ap (λ (o : Option (List Place)). found_step (NumberAt e number) (option_map (backwards k) o)) found
+    ap (λ (w : Whole). found_step (NumberAt e number) (whole_step arcs w)) is
+    ∙ ap (λ (o : Option (List Place)). found_step (NumberAt e number) (option_map (backwards k) o)) found
 backwards-read arcs k arc t found is = absurd is
 
 -- ---- a line of sides
 
-line-next : (arcs : List (List Place)) (t : Tree) (others : Trees) (line : Line) (step : Step) → IsSideTree arcs step t → line.references < 2 ^ 22 → joins line.last step.first ≡ true
+line-next : (arcs : List (List Place)) (t : Tree) (others : Trees) (line : Line) (step : Step) → IsSideTree arcs step t
+    → line.references < 2 ^ 22 → joins line.last step.first ≡ true
     → line_from arcs (NextTree t others) line ≡ line_from arcs others (with_step line step)
 line-next arcs t others line step is few fits =
     counted-more what.References (2 ^ 22) line.references t _ few
@@ -62,7 +69,8 @@ module _ (arcs : List (List Place)) (a b c d : ℕ) (p q r s : Place) (t u v w :
   abbrev line_4 : Line
   line_4 = record { first = Some p; last = Some p; numbers = a ∷ b ∷ c ∷ d ∷ []; references = references + 1 + 1 + 1 + 1 }
 
-  sides-read : IsSideTree arcs (side a p q) t → IsSideTree arcs (side b q r) u → IsSideTree arcs (side c r s) v → IsSideTree arcs (side d s p) w → references + 4 ≤ 2 ^ 22
+  sides-read : IsSideTree arcs (side a p q) t → IsSideTree arcs (side b q r) u → IsSideTree arcs (side c r s) v
+      → IsSideTree arcs (side d s p) w → references + 4 ≤ 2 ^ 22
       → line_from arcs (four_sides t u v w) (no_line [] references) ≡ Ok line_4
   sides-read first second third fourth few =
       let few_1 : references < 2 ^ 22 = omega arith in
@@ -77,28 +85,37 @@ module _ (arcs : List (List Place)) (a b c d : ℕ) (p q r s : Place) (t u v w :
   line_4-closed : (e : Extent) → closed (ListAt e (four_sides t u v w)) line_4 ≡ Ok line_4
   line_4-closed e = cond-true (is_same (Some p) (Some p)) _ _ (same-itself p)
 
-  counted-four : (n : ℕ) → n ≡ references + 4 → ◌≡◌ {A = Result PolygonRead ReadFault} (Ok (record { numbers = a ∷ b ∷ c ∷ d ∷ []; references = n })) (Ok (record { numbers = a ∷ b ∷ c ∷ d ∷ []; references = references + 4 }))
+  counted-four : (n : ℕ) → n ≡ references + 4
+      → ◌≡◌ {A = Result PolygonRead ReadFault} (Ok (record { numbers = a ∷ b ∷ c ∷ d ∷ []; references = n }))
+      (Ok (record { numbers = a ∷ b ∷ c ∷ d ∷ []; references = references + 4 }))
   counted-four n e = rw e refl
 
-  pub ring-read : (e : Extent) → IsSideTree arcs (side a p q) t → IsSideTree arcs (side b q r) u → IsSideTree arcs (side c r s) v → IsSideTree arcs (side d s p) w → references + 4 ≤ 2 ^ 22
-      → ring_of arcs (ListAt e (four_sides t u v w)) (record { numbers = []; references = references }) ≡ Ok (record { numbers = a ∷ b ∷ c ∷ d ∷ []; references = references + 4 })
+  pub ring-read : (e : Extent) → IsSideTree arcs (side a p q) t → IsSideTree arcs (side b q r) u → IsSideTree arcs (side c r s) v
+      → IsSideTree arcs (side d s p) w → references + 4 ≤ 2 ^ 22
+      → ring_of arcs (ListAt e (four_sides t u v w)) (record { numbers = []; references = references })
+      ≡ Ok (record { numbers = a ∷ b ∷ c ∷ d ∷ []; references = references + 4 })
   ring-read e first second third fourth few =
       let total : references + 1 + 1 + 1 + 1 ≡ references + 4 = omega arith in
-      ap (λ (z : Result Line ReadFault). and_then z (λ (line : Line). and_then (closed (ListAt e (four_sides t u v w)) line) read_ring)) (sides-read first second third fourth few)
+      ap (λ (z : Result Line ReadFault). and_then z (λ (line : Line). and_then (closed (ListAt e (four_sides t u v w)) line) read_ring))
+      (sides-read first second third fourth few)
       ∙ ap (λ (z : Result Line ReadFault). and_then z read_ring) (line_4-closed e)
       ∙ counted-four (references + 1 + 1 + 1 + 1) total
 
 -- behind any references that leave room for its four the tree is read as a ring of these arcs
 abbrev pub IsRingTree : List (List Place) → List ℕ → Tree → Type 0
-IsRingTree arcs numbers t = (references : ℕ) → references + 4 ≤ 2 ^ 22 → ring_of arcs t (record { numbers = []; references = references }) ≡ Ok (record { numbers = numbers; references = references + 4 })
+IsRingTree arcs numbers t = (references : ℕ) → references + 4 ≤ 2 ^ 22
+    → ring_of arcs t (record { numbers = []; references = references }) ≡ Ok (record { numbers = numbers; references = references + 4 })
 
 -- the rings of a polygon of one such ring
 abbrev pub AreRingTrees : List (List Place) → List ℕ → Tree → Type 0
-AreRingTrees arcs numbers t = (references : ℕ) → references + 4 ≤ 2 ^ 22 → rings_of arcs t (record { numbers = []; references = references }) ≡ Ok (record { numbers = numbers; references = references + 4 })
+AreRingTrees arcs numbers t = (references : ℕ) → references + 4 ≤ 2 ^ 22
+    → rings_of arcs t (record { numbers = []; references = references }) ≡ Ok (record { numbers = numbers; references = references + 4 })
 
-pub one_ring-read : (arcs : List (List Place)) (numbers : ℕ → List ℕ) (cell : ℕ) (t : Tree) → IsListTree (AreTrees (λ k u. IsRingTree arcs (numbers k) u) (cell ∷ [])) t → AreRingTrees arcs (numbers cell) t
+pub one_ring-read : (arcs : List (List Place)) (numbers : ℕ → List ℕ) (cell : ℕ) (t : Tree)
+    → IsListTree (AreTrees (λ k u. IsRingTree arcs (numbers k) u) (cell ∷ [])) t → AreRingTrees arcs (numbers cell) t
 one_ring-read arcs numbers cell (ListAt e NoTrees) is references few = absurd is
-one_ring-read arcs numbers cell (ListAt e (NextTree ring NoTrees)) is references few = ap (λ (z : Result PolygonRead ReadFault). and_then z (each (ring_of arcs) NoTrees)) (is.0 references few)
+one_ring-read arcs numbers cell (ListAt e (NextTree ring NoTrees)) is references few =
+    ap (λ (z : Result PolygonRead ReadFault). and_then z (each (ring_of arcs) NoTrees)) (is.0 references few)
 one_ring-read arcs numbers cell (ListAt e (NextTree ring (NextTree t more))) is references few = absurd is.1
 one_ring-read arcs numbers cell t is references few = absurd is
 
@@ -109,9 +126,13 @@ pub four-read : (arcs : List (List Place)) (a b c d : ℕ) (p q r s : Place) (y 
     → IsListTree (AreTrees IsNumberTree (y ∷ z ∷ m ∷ n ∷ [])) t → IsRingTree arcs (a ∷ b ∷ c ∷ d ∷ []) t
 four-read arcs a b c d p q r s y z m n (ListAt e NoTrees) first second third fourth is references few = absurd is
 four-read arcs a b c d p q r s y z m n (ListAt e (NextTree t NoTrees)) first second third fourth is references few = absurd is.1
-four-read arcs a b c d p q r s y z m n (ListAt e (NextTree t (NextTree u NoTrees))) first second third fourth is references few = absurd is.1.1
-four-read arcs a b c d p q r s y z m n (ListAt e (NextTree t (NextTree u (NextTree v NoTrees)))) first second third fourth is references few = absurd is.1.1.1
-four-read arcs a b c d p q r s y z m n (ListAt e (NextTree t (NextTree u (NextTree v (NextTree w NoTrees))))) first second third fourth is references few =
+four-read arcs a b c d p q r s y z m n (ListAt e (NextTree t (NextTree u NoTrees))) first second third fourth is references few =
+    absurd is.1.1
+four-read arcs a b c d p q r s y z m n (ListAt e (NextTree t (NextTree u (NextTree v NoTrees)))) first second third fourth is references few
+    = absurd is.1.1.1
+four-read arcs a b c d p q r s y z m n (ListAt e (NextTree t (NextTree u (NextTree v (NextTree w NoTrees))))) first second third fourth is
+    references few =
     ring-read arcs a b c d p q r s t u v w references e (first t is.0) (second u is.1.0) (third v is.1.1.0) (fourth w is.1.1.1.0) few
-four-read arcs a b c d p q r s y z m n (ListAt e (NextTree t (NextTree u (NextTree v (NextTree w (NextTree x more)))))) first second third fourth is references few = absurd is.1.1.1.1
+four-read arcs a b c d p q r s y z m n (ListAt e (NextTree t (NextTree u (NextTree v (NextTree w (NextTree x more)))))) first second third
+    fourth is references few = absurd is.1.1.1.1
 four-read arcs a b c d p q r s y z m n t first second third fourth is references few = absurd is

@@ -58,23 +58,38 @@ record EntryParts (name : List ℕ) (P : Tree → Type 0) (Q : Entries → Type 
   is : P value
   are : Q others
 
-entry-parts : (name : List ℕ) (P : Tree → Type 0) (Q : Entries → Type 0) (members : Entries) → StartsWith name P Q members → EntryParts name P Q members
+entry-parts : (name : List ℕ) (P : Tree → Type 0) (Q : Entries → Type 0) (members : Entries) → StartsWith name P Q members
+    → EntryParts name P Q members
 entry-parts name P Q NoEntries is = absurd is
-entry-parts name P Q (NextEntry e word t others) is = record { at = e; value = t; others = others; parts = ap (λ (w : List ℕ). NextEntry e w t others) is.0; is = is.1; are = is.2 }
+entry-parts name P Q (NextEntry e word t others) is = record {
+  at = e;
+  value = t;
+  others = others;
+  parts =
+      ap (λ (w : List ℕ). NextEntry e w t others) is.0;
+  is = is.1;
+  are = is.2;
+}
 
 end-parts : (members : Entries) → IsEnd members → members ≡ NoEntries
 end-parts NoEntries is = refl
 end-parts (NextEntry e word t others) is = absurd is
 
-two-put : (t : Tree) (members others rest : Entries) (e f g : Extent) (name other : List ℕ) (v w : Tree) → t ≡ ObjectAt e members → members ≡ NextEntry f name v others → others ≡ NextEntry g other w rest → rest ≡ NoEntries
+two-put : (t : Tree) (members others rest : Entries) (e f g : Extent) (name other : List ℕ) (v w : Tree) → t ≡ ObjectAt e members
+    → members ≡ NextEntry f name v others → others ≡ NextEntry g other w rest → rest ≡ NoEntries
     → t ≡ ObjectAt e (NextEntry f name v (NextEntry g other w NoEntries))
-two-put t members others rest e f g name other v w p q r s = p ∙ ap (ObjectAt e) (q ∙ ap (NextEntry f name v) (r ∙ ap (NextEntry g other w) s))
+two-put t members others rest e f g name other v w p q r s = p ∙ ap (ObjectAt e) (q
+    ∙ ap (NextEntry f name v) (r ∙ ap (NextEntry g other w) s))
 
-three-put : (t : Tree) (members others more rest : Entries) (e f g h : Extent) (name other last : List ℕ) (v w z : Tree) → t ≡ ObjectAt e members → members ≡ NextEntry f name v others → others ≡ NextEntry g other w more
-    → more ≡ NextEntry h last z rest → rest ≡ NoEntries → t ≡ ObjectAt e (NextEntry f name v (NextEntry g other w (NextEntry h last z NoEntries)))
-three-put t members others more rest e f g h name other last v w z p q r s u = p ∙ ap (ObjectAt e) (q ∙ ap (NextEntry f name v) (two-behind others more rest g h other last w z r s u))
+three-put : (t : Tree) (members others more rest : Entries) (e f g h : Extent) (name other last : List ℕ) (v w z : Tree)
+    → t ≡ ObjectAt e members → members ≡ NextEntry f name v others → others ≡ NextEntry g other w more
+    → more ≡ NextEntry h last z rest → rest ≡ NoEntries
+    → t ≡ ObjectAt e (NextEntry f name v (NextEntry g other w (NextEntry h last z NoEntries)))
+three-put t members others more rest e f g h name other last v w z p q r s u = p
+    ∙ ap (ObjectAt e) (q ∙ ap (NextEntry f name v) (two-behind others more rest g h other last w z r s u))
   where
-    two-behind : (others more rest : Entries) (g h : Extent) (other last : List ℕ) (w z : Tree) → others ≡ NextEntry g other w more → more ≡ NextEntry h last z rest → rest ≡ NoEntries → others ≡ NextEntry g other w (NextEntry h last z NoEntries)
+    two-behind : (others more rest : Entries) (g h : Extent) (other last : List ℕ) (w z : Tree) → others ≡ NextEntry g other w more
+        → more ≡ NextEntry h last z rest → rest ≡ NoEntries → others ≡ NextEntry g other w (NextEntry h last z NoEntries)
     two-behind others more rest g h other last w z r s u = r ∙ ap (NextEntry g other w) (s ∙ ap (NextEntry h last z) u)
 
 -- an object of two members
@@ -88,7 +103,8 @@ pub record TwoParts (name : List ℕ) (P : Tree → Type 0) (other : List ℕ) (
   pub first_is : P first
   pub second_is : Q second
 
-pub two-parts : (name : List ℕ) (P : Tree → Type 0) (other : List ℕ) (Q : Tree → Type 0) (t : Tree) → IsObjectTree (StartsWith name P (StartsWith other Q IsEnd)) t → TwoParts name P other Q t
+pub two-parts : (name : List ℕ) (P : Tree → Type 0) (other : List ℕ) (Q : Tree → Type 0) (t : Tree)
+    → IsObjectTree (StartsWith name P (StartsWith other Q IsEnd)) t → TwoParts name P other Q t
 two-parts name P other Q t is =
     let o = object-parts (StartsWith name P (StartsWith other Q IsEnd)) t is in
     let a = entry-parts name P (StartsWith other Q IsEnd) o.members o.are in
@@ -99,13 +115,15 @@ two-parts name P other Q t is =
       first = a.value;
       second_at = b.at;
       second = b.value;
-      parts = two-put t o.members a.others b.others o.at a.at b.at name other a.value b.value o.parts a.parts b.parts (end-parts b.others b.are);
+      parts = two-put t o.members a.others b.others o.at a.at b.at name other a.value b.value o.parts a.parts b.parts
+          (end-parts b.others b.are);
       first_is = a.is;
       second_is = b.is;
     }
 
 -- an object of three members
-pub record ThreeParts (name : List ℕ) (P : Tree → Type 0) (other : List ℕ) (Q : Tree → Type 0) (last : List ℕ) (R : Tree → Type 0) (t : Tree) : Type 0 where
+pub record ThreeParts (name : List ℕ) (P : Tree → Type 0) (other : List ℕ) (Q : Tree → Type 0) (last : List ℕ) (R : Tree
+    → Type 0) (t : Tree) : Type 0 where
   pub at : Extent
   pub first_at : Extent
   pub first : Tree
@@ -133,7 +151,8 @@ three-parts name P other Q last R t is =
       second = b.value;
       third_at = c.at;
       third = c.value;
-      parts = three-put t o.members a.others b.others c.others o.at a.at b.at c.at name other last a.value b.value c.value o.parts a.parts b.parts c.parts (end-parts c.others c.are);
+      parts = three-put t o.members a.others b.others c.others o.at a.at b.at c.at name other last a.value b.value c.value o.parts a.parts
+          b.parts c.parts (end-parts c.others c.are);
       first_is = a.is;
       second_is = b.is;
       third_is = c.is;

@@ -16,4 +16,5 @@ MadeMapsAreMaps = (rows cols seed : ℕ) → rows ≤ 100 → cols ≤ 100 → I
 
 -- the text of a coverage reads as its map
 abbrev pub MadeTextReads : Type 0
-MadeTextReads = (rows cols seed : ℕ) → 1 ≤ rows → rows ≤ 100 → 1 ≤ cols → cols ≤ 100 → ReadsAs (made rows cols seed) (made_map rows cols seed)
+MadeTextReads = (rows cols seed : ℕ) → 1 ≤ rows → rows ≤ 100 → 1 ≤ cols → cols ≤ 100
+    → ReadsAs (made rows cols seed) (made_map rows cols seed)

@@ -2,7 +2,8 @@
 -- squares of 64 by 64. The arcs are the sides of the squares: first those that run across, row by row from the lowest
 -- line, then those that run up, row by row. Each arc has 9 positions 8 apart; its 7 inner ones are shifted off the side, by
 -- the shifts in order.
-use Rattle.std.specs.Prelude.{ℕ, ◌+◌, ◌-◌, ◌*◌, ◌/◌, ◌%◌, ℤ, pos, negsuc, ◌+ℤ◌, false, nat_lt, ◌&&◌, if◌then◌else◌, List, [], ◌∷◌, ◌++◌, map, codes}
+use Rattle.std.specs.Prelude.{ℕ, ◌+◌, ◌-◌, ◌*◌, ◌/◌, ◌%◌, ℤ, pos, negsuc, ◌+ℤ◌, false, nat_lt, ◌&&◌, if◌then◌else◌, List, [], ◌∷◌, ◌++◌}
+use Rattle.std.specs.Prelude.{map, codes}
 use Rattle.std.specs.List.{range_with_len}
 use Rattle.std.specs.Fmt.{signed_decimal}
 use Rattle.grid_exact.specs.Geometry.{Place}
@@ -28,10 +29,15 @@ across_position cols seed arc k = record { x = pos (64 * (arc % cols) + 8 * k); 
 
 -- the same for the arc with this number among those that run up
 abbrev pub up_position : ℕ → ℕ → ℕ → ℕ → ℕ → Place
-up_position rows cols seed arc k = record { x = pos (64 * (arc % (cols + 1))) +ℤ offset seed (across_count rows cols + arc) k; y = pos (64 * (arc / (cols + 1)) + 8 * k) }
+up_position rows cols seed arc k = record {
+  x = pos (64 * (arc % (cols + 1))) +ℤ offset seed (across_count rows cols + arc) k;
+  y =
+      pos (64 * (arc / (cols + 1)) + 8 * k);
+}
 
 abbrev pub position : ℕ → ℕ → ℕ → ℕ → ℕ → Place
-position rows cols seed arc k = if nat_lt arc (across_count rows cols) then across_position cols seed arc k else up_position rows cols seed (arc - across_count rows cols) k
+position rows cols seed arc k = if nat_lt arc (across_count rows cols) then across_position cols seed arc k else up_position rows cols seed
+    (arc - across_count rows cols) k
 
 abbrev pub positions : ℕ → ℕ → ℕ → ℕ → List Place
 positions rows cols seed arc = map (position rows cols seed arc) (range_with_len 0 9)
@@ -55,7 +61,8 @@ abbrev pub left_side : ℕ → ℕ → ℕ → ℕ
 left_side rows cols cell = across_count rows cols + cell + cell / cols
 
 unfoldable pub ring_text : ℕ → ℕ → ℕ → List ℕ
-ring_text rows cols cell = list_text (signed_decimal (pos cell) ∷ signed_decimal (pos (left_side rows cols cell + 1)) ∷ signed_decimal (negsuc (cell + cols)) ∷ signed_decimal (negsuc (left_side rows cols cell)) ∷ [])
+ring_text rows cols cell = list_text (signed_decimal (pos cell) ∷ signed_decimal (pos (left_side rows cols cell + 1))
+    ∷ signed_decimal (negsuc (cell + cols)) ∷ signed_decimal (negsuc (left_side rows cols cell)) ∷ [])
 
 unfoldable pub cell_text : ℕ → ℕ → ℕ → List ℕ
 cell_text rows cols cell = codes "{\"type\":\"Polygon\",\"arcs\":[" ++ ring_text rows cols cell ++ codes "]}"

@@ -1,7 +1,9 @@
 //! The lattice of squares on which a coverage lies, and the text of the coverage.
-ghost use Rattle.std.specs.Prelude.{◌≡◌, ◌<◌, ◌≤◌, ◌+◌, ◌*◌, ◌/◌, ◌^◌, ◌++◌, pos, negsuc, IfOk, OnOk, vec_len};
+ghost use Rattle.std.specs.Prelude.{◌≡◌, ◌<◌, ◌≤◌, ◌+◌, ◌*◌, ◌/◌, ◌^◌, ◌++◌, pos, negsuc, IfOk};
+ghost use Rattle.std.specs.Prelude.{OnOk, vec_len};
 ghost use Rattle.topo_writer.specs.Texts.{position_text};
-ghost use Rattle.map_gen.specs.Make.{made, across_count, arc_count, left_side, offset, position, wavy_text, town_text, ring_text, cell_text, list_of};
+ghost use Rattle.map_gen.specs.Make.{made, across_count, arc_count, left_side, offset, position};
+ghost use Rattle.map_gen.specs.Make.{wavy_text, town_text, ring_text, cell_text, list_of};
 ghost use Rattle.map_gen.specs.MadeMap.{made_map};
 ghost use Rattle.topo_writer.specs.Reading.{ReadsAs};
 ghost use Rattle.map_gen.specs.Lattice.{IsLattice, IsSmall, IsOffset};
@@ -11,7 +13,8 @@ use arc_map::NoMemory;
 use std::alloc::{AllocError, Global};
 use topo_writer::{write_number, write_position};
 
-// A coverage: how many rows and columns of cells it has, and the shifts of the inner positions of its arcs.
+// A coverage: how many rows and columns of cells it has, and the shifts of the inner positions of
+// its arcs.
 #[derive(Drop)]
 struct Lattice {
     rows: u32,
@@ -20,9 +23,10 @@ struct Lattice {
     shifts: Vec<i64>,
 }
 
-/// The text of a coverage of so many rows and columns of cells with wavy borders, and of towns close to them,
-/// as a topology (TopoJSON 1.0) without a transform. The same seed gives the same text. It is at most `2^26`
-/// bytes, and reads as the map of the coverage. The only error is want of memory.
+/// The text of a coverage of so many rows and columns of cells with wavy borders, and of towns
+/// close to them, as a topology (TopoJSON 1.0) without a transform. The same seed gives the same
+/// text. It is at most `2^26` bytes, and reads as the map of the coverage. The only error is want
+/// of memory.
 pub fn make(alloc: Global, rows: u32, cols: u32, seed: u32) -> Result<Vec<u8>, NoMemory>
     requires rows { (1 ≤ rows) × (rows ≤ 100) }
     requires cols { (1 ≤ cols) × (cols ≤ 100) }
@@ -58,7 +62,8 @@ impl Lattice {
     // Adds the text of the coverage.
     fn write(&self, out: &mut Vec<u8>) -> Result<(), AllocError>
         requires { IsLattice self.now.rows self.now.cols self.now.seed self.now }
-        ensures value { OnOk result (out.new.items ≡ out.old.items ++ made self.now.rows self.now.cols self.now.seed) }
+        ensures value { OnOk result (out.new.items ≡ out.old.items
+            ++ made self.now.rows self.now.cols self.now.seed) }
         ensures short { OnOk result (vec_len out.new ≤ vec_len out.old + 2 ^ 26) }
     {
         out.extend_from_slice(
@@ -76,8 +81,10 @@ impl Lattice {
     // Adds the list of the cells.
     fn write_cells(&self, out: &mut Vec<u8>) -> Result<(), AllocError>
         requires { IsLattice self.now.rows self.now.cols self.now.seed self.now }
-        ensures value { OnOk result (out.new.items ≡ out.old.items ++ list_of (cell_text self.now.rows self.now.cols) (self.now.rows * self.now.cols)) }
-        ensures short { OnOk result (vec_len out.new ≤ vec_len out.old + 100 * (self.now.rows * self.now.cols) + 2) }
+        ensures value { OnOk result (out.new.items ≡ out.old.items
+            ++ list_of (cell_text self.now.rows self.now.cols) (self.now.rows * self.now.cols)) }
+        ensures short { OnOk result (vec_len out.new
+            ≤ vec_len out.old + 100 * (self.now.rows * self.now.cols) + 2) }
     {
         out.push(b'[')?;
         self.write_cell(out, 0)?;
@@ -94,7 +101,8 @@ impl Lattice {
     fn write_cell(&self, out: &mut Vec<u8>, cell: u32) -> Result<(), AllocError>
         requires lattice { IsLattice self.now.rows self.now.cols self.now.seed self.now }
         requires cell { cell < self.now.rows * self.now.cols }
-        ensures value { OnOk result (out.new.items ≡ out.old.items ++ cell_text self.now.rows self.now.cols cell) }
+        ensures value { OnOk result (out.new.items ≡ out.old.items
+            ++ cell_text self.now.rows self.now.cols cell) }
         ensures short { OnOk result (vec_len out.new ≤ vec_len out.old + 99) }
     {
         out.extend_from_slice(b"{\"type\":\"Polygon\",\"arcs\":[")?;
@@ -103,11 +111,13 @@ impl Lattice {
         Ok(())
     }
 
-    // Adds the ring of the cell: the arcs below it, to its right, and backwards those above it and to its left.
+    // Adds the ring of the cell: the arcs below it, to its right, and backwards those above it and
+    // to its left.
     fn write_ring(&self, out: &mut Vec<u8>, cell: u32) -> Result<(), AllocError>
         requires lattice { IsLattice self.now.rows self.now.cols self.now.seed self.now }
         requires cell { cell < self.now.rows * self.now.cols }
-        ensures value { OnOk result (out.new.items ≡ out.old.items ++ ring_text self.now.rows self.now.cols cell) }
+        ensures value { OnOk result (out.new.items ≡ out.old.items
+            ++ ring_text self.now.rows self.now.cols cell) }
         ensures short { OnOk result (vec_len out.new ≤ vec_len out.old + 49) }
     {
         let (below, right, above, left) = self.ring(cell);
@@ -142,8 +152,11 @@ impl Lattice {
     // Adds the list of the towns.
     fn write_towns(&self, out: &mut Vec<u8>) -> Result<(), AllocError>
         requires { IsLattice self.now.rows self.now.cols self.now.seed self.now }
-        ensures value { OnOk result (out.new.items ≡ out.old.items ++ list_of (town_text self.now.rows self.now.cols self.now.seed) (across_count self.now.rows self.now.cols)) }
-        ensures short { OnOk result (vec_len out.new ≤ vec_len out.old + 26 * across_count self.now.rows self.now.cols + 2) }
+        ensures value { OnOk result (out.new.items ≡ out.old.items
+            ++ list_of (town_text self.now.rows self.now.cols self.now.seed)
+            (across_count self.now.rows self.now.cols)) }
+        ensures short { OnOk result (vec_len out.new
+            ≤ vec_len out.old + 26 * across_count self.now.rows self.now.cols + 2) }
     {
         out.push(b'[')?;
         self.write_town(out, 0)?;
@@ -160,7 +173,8 @@ impl Lattice {
     fn write_town(&self, out: &mut Vec<u8>, arc: u32) -> Result<(), AllocError>
         requires lattice { IsLattice self.now.rows self.now.cols self.now.seed self.now }
         requires arc { arc < across_count self.now.rows self.now.cols }
-        ensures value { OnOk result (out.new.items ≡ out.old.items ++ town_text self.now.rows self.now.cols self.now.seed arc) }
+        ensures value { OnOk result (out.new.items ≡ out.old.items
+            ++ town_text self.now.rows self.now.cols self.now.seed arc) }
         ensures short { OnOk result (vec_len out.new ≤ vec_len out.old + 25) }
     {
         let (x, y) = self.position(arc, 4);
@@ -170,8 +184,11 @@ impl Lattice {
     // Adds the list of the arcs.
     fn write_arcs(&self, out: &mut Vec<u8>) -> Result<(), AllocError>
         requires { IsLattice self.now.rows self.now.cols self.now.seed self.now }
-        ensures value { OnOk result (out.new.items ≡ out.old.items ++ list_of (wavy_text self.now.rows self.now.cols self.now.seed) (arc_count self.now.rows self.now.cols)) }
-        ensures short { OnOk result (vec_len out.new ≤ vec_len out.old + 237 * arc_count self.now.rows self.now.cols + 2) }
+        ensures value { OnOk result (out.new.items ≡ out.old.items
+            ++ list_of (wavy_text self.now.rows self.now.cols self.now.seed)
+            (arc_count self.now.rows self.now.cols)) }
+        ensures short { OnOk result (vec_len out.new
+            ≤ vec_len out.old + 237 * arc_count self.now.rows self.now.cols + 2) }
     {
         out.push(b'[')?;
         self.write_arc(out, 0)?;
@@ -187,7 +204,8 @@ impl Lattice {
     fn write_arc(&self, out: &mut Vec<u8>, arc: u32) -> Result<(), AllocError>
         requires lattice { IsLattice self.now.rows self.now.cols self.now.seed self.now }
         requires arc { arc < arc_count self.now.rows self.now.cols }
-        ensures value { OnOk result (out.new.items ≡ out.old.items ++ wavy_text self.now.rows self.now.cols self.now.seed arc) }
+        ensures value { OnOk result (out.new.items ≡ out.old.items
+            ++ wavy_text self.now.rows self.now.cols self.now.seed arc) }
         ensures short { OnOk result (vec_len out.new ≤ vec_len out.old + 236) }
     {
         out.push(b'[')?;
@@ -205,7 +223,8 @@ impl Lattice {
         requires lattice { IsLattice self.now.rows self.now.cols self.now.seed self.now }
         requires arc { arc < arc_count self.now.rows self.now.cols }
         requires position { k < 9 }
-        ensures value { OnOk result (out.new.items ≡ out.old.items ++ position_text (position self.now.rows self.now.cols self.now.seed arc k)) }
+        ensures value { OnOk result (out.new.items ≡ out.old.items
+            ++ position_text (position self.now.rows self.now.cols self.now.seed arc k)) }
         ensures short { OnOk result (vec_len out.new ≤ vec_len out.old + 25) }
     {
         let (x, y) = self.position(arc, k);

@@ -11,7 +11,8 @@ pub fn made_maps_are_maps()
     ensures { MadeMapsAreMaps }
 {}
 
-/// The text of a coverage of 1 to 100 rows and columns is JSON, and the topology that it is has the map of the coverage.
+/// The text of a coverage of 1 to 100 rows and columns is JSON, and the topology that it is has the
+/// map of the coverage.
 pub fn made_text_reads()
     ensures { MadeTextReads }
 {}

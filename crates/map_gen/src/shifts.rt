@@ -4,7 +4,8 @@ ghost use Rattle.map_gen.specs.Shifts.{next_number, AreShifts};
 
 use std::alloc::{AllocError, Global};
 
-/// The shifts from the first on, for this seed: each from -7 to 7. The only error is want of memory.
+/// The shifts from the first on, for this seed: each from -7 to 7. The only error is want of
+/// memory.
 pub fn shifts(alloc: Global, seed: u32, count: usize) -> Result<Vec<i64>, AllocError>
     requires { seed < 65537 }
     ensures count { IfOk result (λ shifts. vec_len shifts ≡ count) }

@@ -26,16 +26,21 @@ all_as_read m refs w is k below =
 -- ---- the vertices of a chain as read
 
 -- the number of a vertex in its arc
-vertex_number : (m : Map) (r : ChainRef) (i : ℕ) → i < length (vertices_of (chain_in m r)) → vertex_at (chain_in m r) i ≡ vertex_in m r.arc (r.«from» + i)
+vertex_number : (m : Map) (r : ChainRef) (i : ℕ) → i < length (vertices_of (chain_in m r))
+    → vertex_at (chain_in m r) i ≡ vertex_in m r.arc (r.«from» + i)
 vertex_number m r i inside =
     let n = suc (r.to - r.«from») in
-    let count : length (vertices_of (chain_in m r)) ≡ n = length-map (range_with_len r.«from» n) (vertex_in m r.arc) ∙ length-range_with_len r.«from» n in
-    get_or-map-range_with_len (vertex_in m r.arc) r.«from» n i (r.«from» + i) (vertex_in m r.arc r.«from») (omega (arith, inside, count)) refl
+    let count : length (vertices_of (chain_in m r)) ≡ n = length-map (range_with_len r.«from» n) (vertex_in m r.arc)
+    ∙ length-range_with_len r.«from» n in
+    get_or-map-range_with_len (vertex_in m r.arc) r.«from» n i (r.«from» + i) (vertex_in m r.arc r.«from») (omega (arith, inside, count))
+    refl
 
 -- no two of them are one
-pub vertices_differ : (m : Map) (r : ChainRef) (i j : ℕ) → i < length (vertices_of (chain_in m r)) → j < length (vertices_of (chain_in m r)) → vertex_at (chain_in m r) i ≡ vertex_at (chain_in m r) j → i ≡ j
+pub vertices_differ : (m : Map) (r : ChainRef) (i j : ℕ) → i < length (vertices_of (chain_in m r)) → j < length (vertices_of (chain_in m r))
+    → vertex_at (chain_in m r) i ≡ vertex_at (chain_in m r) j → i ≡ j
 vertices_differ m r i j inside within same =
-    let at : r.«from» + i ≡ r.«from» + j = ap (λ (v : Vertex). v.at) (sym (vertex_number m r i inside) ∙ same ∙ vertex_number m r j within) in
+    let at : r.«from» + i ≡ r.«from» + j = ap (λ (v : Vertex). v.at) (sym (vertex_number m r i inside) ∙ same ∙ vertex_number m r j within)
+    in
     omega arith
 
 -- ---- vertices and their places

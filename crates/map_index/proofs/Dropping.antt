@@ -1,5 +1,6 @@
 -- One walk along a run of items beside the places that are kept of it.
-use Rattle.std.proofs.Common.{◌≡◌, ◌≢◌, ◌∙◌, ℕ, ◌+◌, ◌<◌, ◌≤◌, Bool, IsTrue, false, List, length, get_or, set, Contains, inl, inr, sym, subst, arith, get_or-set_other, get_or-set_same}
+use Rattle.std.proofs.Common.{◌≡◌, ◌≢◌, ◌∙◌, ℕ, ◌+◌, ◌<◌, ◌≤◌, Bool, IsTrue, false, List, length, get_or, set, Contains, inl, inr, sym}
+use Rattle.std.proofs.Common.{subst, arith, get_or-set_other, get_or-set_same}
 use Rattle.std.specs.List.Sorted.{IsStrictlyIncreasing}
 use Rattle.std.proofs.lemmas.Bool.{cases_lt, false≢true}
 use Rattle.std.proofs.lemmas.List.{get_or_default}
@@ -15,7 +16,8 @@ pub record IsWalkedTo (kept : List ℕ) (i next : ℕ) : Type 0 where
   pub behind : (j : ℕ) → j < next → get_or kept j 0 < i
   pub ahead : (j : ℕ) → next ≤ j → j < length kept → i ≤ get_or kept j 0
 
-pub walk_passes : (kept : List ℕ) (i next : ℕ) → IsStrictlyIncreasing kept → IsWalkedTo kept i next → next < length kept → get_or kept next 0 ≡ i → IsWalkedTo kept (i + 1) (next + 1)
+pub walk_passes : (kept : List ℕ) (i next : ℕ) → IsStrictlyIncreasing kept → IsWalkedTo kept i next → next < length kept
+    → get_or kept next 0 ≡ i → IsWalkedTo kept (i + 1) (next + 1)
 walk_passes kept i next rising walked inside here = record {
   within = omega arith;
   behind = λ j below. elim (cases_lt j next) [
@@ -25,7 +27,8 @@ walk_passes kept i next rising walked inside here = record {
   ahead = λ j past below. let less = AllPairs-from_increasing kept rising next j 0 (omega arith) below in omega arith;
 }
 
-pub walk_waits : (kept : List ℕ) (i next : ℕ) → IsStrictlyIncreasing kept → IsWalkedTo kept i next → (next < length kept → get_or kept next 0 ≢ i) → IsWalkedTo kept (i + 1) next
+pub walk_waits : (kept : List ℕ) (i next : ℕ) → IsStrictlyIncreasing kept → IsWalkedTo kept i next
+    → (next < length kept → get_or kept next 0 ≢ i) → IsWalkedTo kept (i + 1) next
 walk_waits kept i next rising walked other = record {
   within = walked.within;
   behind = λ j below. let less = walked.behind j below in omega arith;
@@ -37,7 +40,8 @@ walk_waits kept i next rising walked other = record {
       omega arith;
 }
 
-pub not_kept : (kept : List ℕ) (i next : ℕ) → IsStrictlyIncreasing kept → IsWalkedTo kept i next → (next < length kept → get_or kept next 0 ≢ i) → ¬ (Contains kept i)
+pub not_kept : (kept : List ℕ) (i next : ℕ) → IsStrictlyIncreasing kept → IsWalkedTo kept i next
+    → (next < length kept → get_or kept next 0 ≢ i) → ¬ (Contains kept i)
 not_kept kept i next rising walked other has =
     let here : get_or kept has.0 0 ≡ i = get_or_default kept has.0 0 i has.1 ∙ has.2 in
     elim (cases_lt has.0 next) [
@@ -49,7 +53,8 @@ not_kept kept i next rising walked other has =
 
 -- ---- the items
 
-pub one_kept : (kept : List ℕ) (first i : ℕ) (before now : List Bool) → Contains kept i → AreDropped kept first i before now → AreDropped kept first (i + 1) before now
+pub one_kept : (kept : List ℕ) (first i : ℕ) (before now : List Bool) → Contains kept i → AreDropped kept first i before now
+    → AreDropped kept first (i + 1) before now
 one_kept kept first i before now has so_far = record {
   only = λ at below is. elim (cases_lt at i) [
     | inl lt ↦ so_far.only at lt is
@@ -58,7 +63,8 @@ one_kept kept first i before now has so_far = record {
   others = λ n keep. so_far.others n (λ at below. keep at (omega arith));
 }
 
-pub one_dropped : (kept : List ℕ) (first i : ℕ) (before now : List Bool) → first + i < length now → ¬ (Contains kept i) → AreDropped kept first i before now → AreDropped kept first (i + 1) before (set now (first + i) false)
+pub one_dropped : (kept : List ℕ) (first i : ℕ) (before now : List Bool) → first + i < length now → ¬ (Contains kept i)
+    → AreDropped kept first i before now → AreDropped kept first (i + 1) before (set now (first + i) false)
 one_dropped kept first i before now within missing so_far = record {
   only = λ at below is. elim (cases_lt at i) [
     | inl lt ↦

@@ -1,5 +1,6 @@
 -- The index of a map of which no chain is thinned, and what the live items of an index are.
-use Rattle.std.proofs.Common.{◌≡◌, ◌∙◌, ℕ, ◌+◌, ◌<◌, ◌^◌, IsTrue, true, false, List, length, get_or, replicate, All, Contains, refl, ap, sym, subst, arith, inl, inr}
+use Rattle.std.proofs.Common.{◌≡◌, ◌∙◌, ℕ, ◌+◌, ◌<◌, ◌^◌, IsTrue, true, false, List, length, get_or, replicate, All, Contains, refl, ap}
+use Rattle.std.proofs.Common.{sym, subst, arith, inl, inr}
 use Rattle.std.specs.List.{enumerate_from}
 use Rattle.std.specs.List.Sorted.{IsPermutation}
 use Rattle.std.proofs.lemmas.Bool.{cases_lt}
@@ -25,7 +26,8 @@ use Rattle.map_index.proofs.AsRead.{vertex_count, place_of, has_vertex, has_plac
 
 -- ---- what the live items are
 
-owner_of_item : (w : Work) (v : Placed) (n : ℕ) (item : Item) → AreLiveIn w v → AreOfRead w → IsItem w.read w.refs v.firsts n item → IsTrue (get_or v.items.live n false) → Owns w.chains w.read.points item.owner item.at
+owner_of_item : (w : Work) (v : Placed) (n : ℕ) (item : Item) → AreLiveIn w v → AreOfRead w → IsItem w.read w.refs v.firsts n item
+    → IsTrue (get_or v.items.live n false) → Owns w.chains w.read.points item.owner item.at
 owner_of_item w v n item live chains (IsTown below is) alive =
     subst (λ (it : Item). Owns w.chains w.read.points it.owner it.at) (sym is) (Contains-get_or w.read.points n nowhere below)
 owner_of_item w v n item live chains (IsVertex k i read number is) alive =
@@ -34,7 +36,8 @@ owner_of_item w v n item live chains (IsVertex k i read number is) alive =
     subst (λ (it : Item). Owns w.chains w.read.points it.owner it.at) (sym is)
     (below, has_place (chain_at w.chains k) (vertex_at (chain_read w.read w.refs k) i) has)
 
-live_of_owner : (w : Work) (v : Placed) (owner : Owner) (p : Place) → AreNumbered w.read w.refs v → AreLiveIn w v → AreOfRead w → Owns w.chains w.read.points owner p → (n : ℕ) × IsLiveItem v.items n (item_of owner p)
+live_of_owner : (w : Work) (v : Placed) (owner : Owner) (p : Place) → AreNumbered w.read w.refs v → AreLiveIn w v → AreOfRead w
+    → Owns w.chains w.read.points owner p → (n : ℕ) × IsLiveItem v.items n (item_of owner p)
 live_of_owner w v Town p numbers live chains has =
     let point : p ≡ get_or w.read.points has.0 nowhere = sym (get_or_default w.read.points has.0 nowhere p has.1 ∙ has.2) in
     (has.0, (numbers.all has.0 (item_of Town p) (IsTown has.1 (ap (item_of Town) point)), live.towns has.0 has.1))
@@ -44,8 +47,14 @@ live_of_owner w v (OfChain k) p numbers live chains has =
     let left = chains.left k found.vertex below found.has in
     let read : IsVertexRead w.read w.refs k left.0 = record { chain = below; vertex = left.1 } in
     let place : p ≡ (vertex_at (chain_read w.read w.refs k) left.0).place = sym found.is ∙ ap (λ (u : Vertex). u.place) left.2 in
-    let there = (live.vertices k left.0 read).1 (subst (Contains (vertices_of (chain_at w.chains k))) left.2 found.has) in
-    (get_or v.firsts k 0 + left.0, (numbers.all (get_or v.firsts k 0 + left.0) (item_of (OfChain k) p) (IsVertex k left.0 read refl (ap (item_of (OfChain k)) place)), there))
+    let there = (live.vertices k left.0 read).1 (subst (Contains (vertices_of (chain_at w.chains k))) left.2 found.has) in (
+      get_or v.firsts k 0 + left.0,
+      (
+        numbers.all (get_or v.firsts k 0 + left.0) (item_of (OfChain k) p)
+            (IsVertex k left.0 read refl (ap (item_of (OfChain k)) place)),
+        there,
+      ),
+    )
 
 pub index_of_parts : (w : Work) (v : Placed) → AreNumbered w.read w.refs v → AreLiveIn w v → AreOfRead w → IsIndexAt w v
 index_of_parts w v numbers live chains = record {
@@ -72,16 +81,20 @@ pub record IsListed (w : Work) (items : List Item) (v : Placed) : Type 0 where
   pub read : (k : ℕ) → k < length w.chains → IsAsRead w k
   pub edges : All (λ chain. 0 < length chain.rest) w.chains
 
-read_count : (w : Work) (items : List Item) (v : Placed) (k : ℕ) → IsListed w items v → k < length w.chains → length (vertices_of (chain_read w.read w.refs k)) ≡ size (chain_at w.chains k)
+read_count : (w : Work) (items : List Item) (v : Placed) (k : ℕ) → IsListed w items v → k < length w.chains
+    → length (vertices_of (chain_read w.read w.refs k)) ≡ size (chain_at w.chains k)
 read_count w items v k listed below =
     vertex_count (chain_read w.read w.refs k) ∙ ap size (sym (listed.read k below))
 
-read_place : (w : Work) (items : List Item) (v : Placed) (k i : ℕ) → IsListed w items v → k < length w.chains → i < length (vertices_of (chain_read w.read w.refs k)) → get_or (chain_places (chain_at w.chains k)) i nowhere ≡ (vertex_at (chain_read w.read w.refs k) i).place
+read_place : (w : Work) (items : List Item) (v : Placed) (k i : ℕ) → IsListed w items v → k < length w.chains
+    → i < length (vertices_of (chain_read w.read w.refs k)) → get_or (chain_places (chain_at w.chains k)) i nowhere
+    ≡ (vertex_at (chain_read w.read w.refs k) i).place
 read_place w items v k i listed below inside =
     ap (λ (c : Chain). get_or (chain_places c) i nowhere) (listed.read k below) ∙ place_of (chain_read w.read w.refs k) i inside
 
 -- the item with a number
-item_with : (w : Work) (items : List Item) (v : Placed) (n : ℕ) (item : Item) → IsListed w items v → n < length items → get_or items n item ≡ item → IsItem w.read w.refs v.firsts n item
+item_with : (w : Work) (items : List Item) (v : Placed) (n : ℕ) (item : Item) → IsListed w items v → n < length items
+    → get_or items n item ≡ item → IsItem w.read w.refs v.firsts n item
 item_with w items v n item listed below is =
     let points = w.read.points in
     let there : item ≡ get_or (items_of points w.chains) n item = sym is ∙ ap (λ (xs : List Item). get_or xs n item) listed.list in
@@ -92,15 +105,21 @@ item_with w items v n item listed below is =
           let at = stands_at points w.chains n past (omega (arith, below, count)) in
           let k = at.chain in
           let i = at.vertex in
-          let inside : i < length (vertices_of (chain_read w.read w.refs k)) = omega (arith, at.inside, read_count w items v k listed at.below) in
+          let inside : i < length (vertices_of (chain_read w.read w.refs k)) =
+          omega (arith, at.inside, read_count w items v k listed at.below) in
           let number : n ≡ get_or v.firsts k 0 + i = omega (arith, at.place, listed.firsts k at.below) in
-          let read : IsVertexRead w.read w.refs k i = record { chain = omega (arith, at.below, listed.firsts_count, listed.refs_count); vertex = inside } in
+          let read : IsVertexRead w.read w.refs k i = record {
+            chain =
+                omega (arith, at.below, listed.firsts_count, listed.refs_count);
+            vertex = inside;
+          } in
           IsVertex k i read number
           (there ∙ ap (λ a. get_or (items_of points w.chains) a item) at.place ∙ vertex_at_place points w.chains k i item at.below at.inside
           ∙ ap (item_of (OfChain k)) (read_place w items v k i listed at.below inside))
     ]
 
-contained : (items : List Item) (n : ℕ) (item : Item) → n < length items → get_or items n item ≡ item → Contains (enumerate_from 0 items) (n, item)
+contained : (items : List Item) (n : ℕ) (item : Item) → n < length items → get_or items n item ≡ item
+    → Contains (enumerate_from 0 items) (n, item)
 contained items n item below is =
     let number : 0 + n ≡ n = omega arith in (
       n,
@@ -108,7 +127,8 @@ contained items n item below is =
       get_or-enumerate_from 0 items n (n, item) below ∙ ap (λ a. (a, get_or items n item)) number ∙ ap (λ it. (n, it)) is,
     )
 
-item_listed : (w : Work) (items : List Item) (v : Placed) (n : ℕ) (item : Item) → IsListed w items v → IsItem w.read w.refs v.firsts n item → Contains (enumerate_from 0 items) (n, item)
+item_listed : (w : Work) (items : List Item) (v : Placed) (n : ℕ) (item : Item) → IsListed w items v → IsItem w.read w.refs v.firsts n item
+    → Contains (enumerate_from 0 items) (n, item)
 item_listed w items v n item listed (IsTown below is) =
     let points = w.read.points in
     let count = ap length listed.list in
@@ -142,7 +162,8 @@ numbers_at_first w items v listed =
     let whole = ap (λ (cs : List Chain). length (items_of points cs)) (take_all (length w.chains) w.chains (omega arith)) in
     record {
       only = λ n item has.
-          let there = Contains-permutation v.items.numbered pairs (n, item) (IsPermutation-sym pairs v.items.numbered listed.numbered) has in
+          let there = Contains-permutation v.items.numbered pairs (n, item) (IsPermutation-sym pairs v.items.numbered listed.numbered) has
+          in
           let below : there.0 < length items = omega (arith, there.1, length-enumerate_from 0 items) in
           let pair = sym (get_or-enumerate_from 0 items there.0 (n, item) below) ∙ there.2 in
           let number : there.0 ≡ n = let z = ap (λ (q : ℕ × Item). q.0) pair in omega arith in
@@ -152,10 +173,26 @@ numbers_at_first w items v listed =
       past_towns = λ k below. omega (arith, listed.firsts k (omega (arith, below, chains)), after_towns points w.chains k);
       apart = λ k l before below.
           let inside : l < length w.chains = omega (arith, below, chains) in
-          omega (arith, listed.firsts k (omega (arith, before, inside)), listed.firsts l inside, read_count w items v k listed (omega (arith, before, inside)), apart points w.chains k l before (omega (arith, inside)));
+          omega (
+            arith,
+            listed.firsts k (omega (arith, before, inside)),
+            listed.firsts l inside,
+            read_count w items v k listed
+                (omega (arith, before, inside)),
+            apart points w.chains k l before (omega (arith, inside)),
+          );
       within = λ k below.
           let inside : k < length w.chains = omega (arith, below, chains) in
-          omega (arith, live_count, count, whole, listed.firsts k inside, read_count w items v k listed inside, apart points w.chains k (length w.chains) inside (omega arith));
+          omega (
+            arith,
+            live_count,
+            count,
+            whole,
+            listed.firsts k inside,
+            read_count w items v k listed inside,
+            apart points w.chains k
+                (length w.chains) inside (omega arith),
+          );
       few = omega (arith, live_count, listed.few);
       firsts_count = listed.refs_count;
     }
@@ -173,7 +210,8 @@ live_at_first w items v listed numbers =
           alive n (omega (arith, below, count, whole, after_towns points w.chains (length w.chains)));
       vertices = λ k i read.
           let below : k < length w.chains = omega (arith, read.chain, listed.firsts_count, listed.refs_count) in (
-            λ is. subst (λ (c : Chain). Contains (vertices_of c) (vertex_at (chain_read w.read w.refs k) i)) (sym (listed.read k below)) (has_vertex (chain_read w.read w.refs k) i read.vertex),
+            λ is. subst (λ (c : Chain). Contains (vertices_of c) (vertex_at (chain_read w.read w.refs k) i)) (sym (listed.read k below))
+                (has_vertex (chain_read w.read w.refs k) i read.vertex),
             λ has. alive (get_or v.firsts k 0 + i) (omega (arith, numbers.within k read.chain, read.vertex, live_count)),
           );
     }

@@ -25,5 +25,6 @@ pub record IsInStep (w : Work) (index : Placed) (ends : EndLists) : Type 0 where
 pub record AreItemsIn (w : Work) (low high : Place) (found : List (ℕ × Item)) : Type 0 where
   pub only : (n : ℕ) (item : Item) → Contains found (n, item) → Owns w.chains w.read.points item.owner item.at
   pub inside : (n : ℕ) (item : Item) → Contains found (n, item) → IsTrue (is_in_box low high item.at)
-  pub all : (owner : Owner) (p : Place) → Owns w.chains w.read.points owner p → IsTrue (is_in_box low high p) → (n : ℕ) × Contains found (n, item_of owner p)
+  pub all : (owner : Owner) (p : Place) → Owns w.chains w.read.points owner p → IsTrue (is_in_box low high p)
+      → (n : ℕ) × Contains found (n, item_of owner p)
   pub few : length found ≤ items_in w

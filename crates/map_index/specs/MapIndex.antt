@@ -40,7 +40,8 @@ pub record IsVertexRead (m : Map) (refs : List ChainRef) (k i : ℕ) : Type 0 wh
 -- each chain's from its first number on
 pub data IsItem (m : Map) (refs : List ChainRef) (firsts : List ℕ) (n : ℕ) (item : Item) : Type 0 where
   IsTown : n < length m.points → item ≡ item_of Town (get_or m.points n nowhere) → IsItem m refs firsts n item
-  IsVertex : (k i : ℕ) → IsVertexRead m refs k i → n ≡ get_or firsts k 0 + i → item ≡ item_of (OfChain k) (vertex_at (chain_read m refs k) i).place → IsItem m refs firsts n item
+  IsVertex : (k i : ℕ) → IsVertexRead m refs k i → n ≡ get_or firsts k 0 + i
+      → item ≡ item_of (OfChain k) (vertex_at (chain_read m refs k) i).place → IsItem m refs firsts n item
 
 -- the numbers of the items; no two chains share one
 pub record AreNumbered (m : Map) (refs : List ChainRef) (v : Placed) : Type 0 where
@@ -55,14 +56,16 @@ pub record AreNumbered (m : Map) (refs : List ChainRef) (v : Placed) : Type 0 wh
 -- a feature point is live, and a vertex as read is live exactly where it is in its chain as it is now
 pub record AreLiveIn (w : Work) (v : Placed) : Type 0 where
   pub towns : (n : ℕ) → n < length w.read.points → IsTrue (get_or v.items.live n false)
-  pub vertices : (k i : ℕ) → IsVertexRead w.read w.refs k i → IsTrue (get_or v.items.live (get_or v.firsts k 0 + i) false) ↔ Contains (vertices_of (chain_at w.chains k)) (vertex_at (chain_read w.read w.refs k) i)
+  pub vertices : (k i : ℕ) → IsVertexRead w.read w.refs k i → IsTrue (get_or v.items.live (get_or v.firsts k 0 + i) false)
+      ↔ Contains (vertices_of (chain_at w.chains k)) (vertex_at (chain_read w.read w.refs k) i)
 
 -- the chains of a map at work have vertices as read, and no others; each has its frame as read, and an edge
 pub record AreOfRead (w : Work) : Type 0 where
   pub count : length w.chains ≡ length w.refs
   pub frames : (k : ℕ) → k < length w.chains → (chain_at w.chains k).frame ≡ (get_or w.refs k no_ref).frame
   pub edges : All (λ chain. 0 < length chain.rest) w.chains
-  pub left : (k : ℕ) (v : Vertex) → k < length w.refs → Contains (vertices_of (chain_at w.chains k)) v → (i : ℕ) × (i < length (vertices_of (chain_read w.read w.refs k))) × (v ≡ vertex_at (chain_read w.read w.refs k) i)
+  pub left : (k : ℕ) (v : Vertex) → k < length w.refs → Contains (vertices_of (chain_at w.chains k)) v
+      → (i : ℕ) × (i < length (vertices_of (chain_read w.read w.refs k))) × (v ≡ vertex_at (chain_read w.read w.refs k) i)
 
 -- this is the index of the map at work
 pub record IsIndexAt (w : Work) (v : Placed) : Type 0 where

@@ -1,4 +1,5 @@
-//! The items of a map at work by where they stand: its feature points and the vertices of its chains.
+//! The items of a map at work by where they stand: its feature points and the vertices of its
+//! chains.
 ghost use Rattle.std.specs.Prelude.{◌≡◌, ◌+◌, ◌<◌, ◌≤◌, ◌^◌, ℕ, IfOk, length};
 ghost use Rattle.std.specs.List.Sorted.{IsStrictlyIncreasing};
 ghost use Rattle.arc_map.specs.Chains.{chain_at};
@@ -16,9 +17,10 @@ use std::alloc::Global;
 use std::marker::Model;
 use sweep_index::{Index, Walk};
 
-// The feature points and the vertices of a map at work, by where they stand. The items are numbered: first the
-// feature points in order, then the vertices of the chains as read, chain after chain. A vertex that is thinned away is
-// live no more. Contracts see the items, and for each chain the number of its first.
+// The feature points and the vertices of a map at work, by where they stand. The items are
+// numbered: first the feature points in order, then the vertices of the chains as read, chain after
+// chain. A vertex that is thinned away is live no more. Contracts see the items, and for each chain
+// the number of its first.
 #[derive(Drop)]
 pub struct MapIndex {
     index: Index,
@@ -34,7 +36,8 @@ impl Model for MapIndex {
 }
 
 impl MapIndex {
-    // The index of a map at work of which no chain is thinned yet. The only error is want of memory.
+    // The index of a map at work of which no chain is thinned yet. The only error is want of
+    // memory.
     pub fn build(alloc: Global, work: &WorkMap) -> Result<MapIndex, NoMemory>
         requires { (k : ℕ) → k < length work.now.chains → IsAsRead work.now k }
         ensures index { IfOk result (IsIndexAt work.now) }
@@ -53,15 +56,16 @@ impl MapIndex {
         self.index.item_count()
     }
 
-    // The live items in the closed box from its corner `low` to its corner `high`, each with its number.
+    // The live items in the closed box from its corner `low` to its corner `high`, each with its
+    // number.
     pub fn in_box(&self, low: Point, high: Point) -> Walk<'_>
         ensures { items_left result ≡ found_in self.now.items low high }
     {
         self.index.in_box(low, high)
     }
 
-    // Keeps step with the map, whose chain number `k` is about to be thinned to the places `kept`: call it before
-    // `work.thin(k, kept)`. The chain is as read.
+    // Keeps step with the map, whose chain number `k` is about to be thinned to the places `kept`:
+    // call it before `work.thin(k, kept)`. The chain is as read.
     pub fn thin(&mut self, work: &WorkMap, k: u32, kept: &[u32])
         requires index { IsIndexAt work.now self.old }
         requires chain { k < length work.now.chains }
@@ -76,7 +80,8 @@ impl MapIndex {
     }
 }
 
-// Drops of the items from the number `first` on, `count` of them, those that are not at the places `kept`.
+// Drops of the items from the number `first` on, `count` of them, those that are not at the places
+// `kept`.
 fn drop_others(index: &mut Index, first: u32, count: u32, kept: &[u32])
     requires rising { IsStrictlyIncreasing kept.now }
     requires within { first + count ≤ length index.old.live }

@@ -15,8 +15,8 @@ use std::alloc::Global;
 use std::marker::Model;
 use sweep_index::Walk;
 
-/// A map whose chains can be thinned, with its feature points and vertices by where they stand, and its chains by their ends. Contracts
-/// see the map at work.
+/// A map whose chains can be thinned, with its feature points and vertices by where they stand, and
+/// its chains by their ends. Contracts see the map at work.
 #[derive(Drop)]
 pub struct IndexedMap {
     work: WorkMap,
@@ -54,7 +54,8 @@ impl IndexedMap {
         &self.work
     }
 
-    /// The positions of the vertices of chain number `k` as it is now, in grid units, from its first to its last.
+    /// The positions of the vertices of chain number `k` as it is now, in grid units, from its
+    /// first to its last.
     pub fn chain(&self, k: u32) -> &[Point]
         requires { k < length self.now.chains }
         ensures places { result.now ≡ chain_places (chain_at self.now.chains k) }
@@ -75,8 +76,8 @@ impl IndexedMap {
         self.index.item_count()
     }
 
-    /// The items in the closed box from its corner `low` to its corner `high`, each with its number: the feature points there, and the
-    /// vertices of the chains as they are now.
+    /// The items in the closed box from its corner `low` to its corner `high`, each with its
+    /// number: the feature points there, and the vertices of the chains as they are now.
     pub fn in_box(&self, low: Point, high: Point) -> Walk<'_>
         ensures { AreItemsIn self.now low high (items_left result) }
     {
@@ -98,7 +99,8 @@ impl IndexedMap {
         self.ends.chains_at(p)
     }
 
-    /// Leaves just the vertices of chain number `k`, which is as read, at the places `kept`, from 0. All else stays.
+    /// Leaves just the vertices of chain number `k`, which is as read, at the places `kept`, from
+    /// 0. All else stays.
     pub fn thin(&mut self, k: u32, kept: &[u32])
         requires chain { k < length self.old.chains }
         requires read { IsAsRead self.old k }
@@ -109,7 +111,8 @@ impl IndexedMap {
         self.work.thin(k, kept);
     }
 
-    /// The map as it is now: its arcs are those that the chains make up, and the rest is as in the map read.
+    /// The map as it is now: its arcs are those that the chains make up, and the rest is as in the
+    /// map read.
     pub fn finish(self) -> ArcMap
         ensures { result ≡ map_now self.read self.chains }
     {

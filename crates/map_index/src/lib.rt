@@ -1,4 +1,5 @@
-//! A map at work, with its feature points and vertices by where they stand, and its chains by their ends.
+//! A map at work, with its feature points and vertices by where they stand, and its chains by their
+//! ends.
 #![tactic(auto)]
 
 mod index;

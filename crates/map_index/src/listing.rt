@@ -1,5 +1,6 @@
 //! The items of a map at work in the order of their numbers.
-ghost use Rattle.std.specs.Prelude.{◌≡◌, ◌<◌, ◌≤◌, ◌^◌, ◌++◌, ℕ, All, IfOk, OnOk, length, map, slice_index};
+ghost use Rattle.std.specs.Prelude.{◌≡◌, ◌<◌, ◌≤◌, ◌^◌, ◌++◌, ℕ, All, IfOk, OnOk, length, map};
+ghost use Rattle.std.specs.Prelude.{slice_index};
 ghost use Rattle.sweep_index.specs.declared.index.Owner.TheVariants.{Town};
 ghost use Rattle.map_index.specs.Listing.{item_of, items_of, items_before};
 
@@ -41,7 +42,8 @@ fn vertex_count(work: &WorkMap) -> usize
 
 // Puts the feature points at the end of the items.
 fn push_points(items: &mut Vec<Item>, work: &WorkMap) -> Result<(), AllocError>
-    ensures { OnOk result (items.new.items ≡ items.old.items ++ map (item_of Town) work.now.read.points) }
+    ensures { OnOk result (items.new.items ≡ items.old.items
+        ++ map (item_of Town) work.now.read.points) }
 {
     for k in 0..work.point_count() {
         items.push(Item {

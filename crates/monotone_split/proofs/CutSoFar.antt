@@ -1,5 +1,6 @@
 -- What has been cut so far: whatever the rest is cut into completes it.
-use Rattle.std.proofs.Common.{◌≡◌, ◌∙◌, ℕ, suc, ◌+◌, ◌-◌, ◌<◌, ◌≤◌, List, [], ◌∷◌, ◌++◌, All, length, map, drop, refl, sym, ap, subst, arith, add-one, drop-cons, append_assoc}
+use Rattle.std.proofs.Common.{◌≡◌, ◌∙◌, ℕ, suc, ◌+◌, ◌-◌, ◌<◌, ◌≤◌, List, [], ◌∷◌, ◌++◌, All, length, map, drop, refl, sym, ap, subst}
+use Rattle.std.proofs.Common.{arith, add-one, drop-cons, append_assoc}
 use Rattle.std.specs.List.{range_with_len}
 use Rattle.std.proofs.lemmas.List.{append-nil, map-append, drop_all, length-map}
 use Rattle.std.proofs.lemmas.List.Elements.{All-append, All-push, All-from_recursion}
@@ -24,7 +25,8 @@ pub record CutSoFar (m : Map) (arc start : ℕ) (before now : List ChainRef) : T
   pub behind : now ≡ before ++ added
   pub lie : All (LiesInArc m) added
   pub short : All IsShort added
-  pub onward : (ks : List Chain) → IsCutInto (vertex_in m arc start) (all_after m arc start) ks → IsListCutInto (vertices_from arc 0 (arc_at m arc)) (map (chain_in m) added ++ ks)
+  pub onward : (ks : List Chain) → IsCutInto (vertex_in m arc start) (all_after m arc start) ks
+      → IsListCutInto (vertices_from arc 0 (arc_at m arc)) (map (chain_in m) added ++ ks)
 
 pub cut_begins : (m : Map) (arc : ℕ) (before : List ChainRef) → 0 < length (arc_at m arc) → CutSoFar m arc 0 before before
 cut_begins m arc before some =
@@ -34,13 +36,17 @@ cut_begins m arc before some =
       behind = sym (append-nil before);
       lie = All-from_recursion (LiesInArc m) [] tt;
       short = All-from_recursion IsShort [] tt;
-      onward = λ ks cut. subst (λ (vs : List Vertex). IsListCutInto vs ks) (sym (vertices_numbered m arc 0 (arc_at m arc) refl ∙ ap (λ (n : ℕ). map (vertex_in m arc) (range_with_len 0 n)) (one_more (length (arc_at m arc)) some))) cut;
+      onward = λ ks cut. subst (λ (vs : List Vertex). IsListCutInto vs ks)
+          (sym (vertices_numbered m arc 0 (arc_at m arc) refl ∙ ap (λ (n : ℕ). map (vertex_in m arc) (range_with_len 0 n))
+          (one_more (length (arc_at m arc)) some))) cut;
     }
   where
     one_more : (n : ℕ) → 0 < n → n ≡ suc (n - 1)
     one_more n h = omega arith
 
-made_goes_on : (m : Map) (arc start n : ℕ) (before now : List ChainRef) (r : ChainRef) → arc < length m.arcs → start + 1 < length (arc_at m arc) → r ≡ record { arc = arc; «from» = start; to = start + n; frame = r.frame } → IsNextRun (drop start (arc_at m arc)) r.frame n → CutSoFar m arc start before now → CutSoFar m arc (start + n) before (now ++ r ∷ [])
+made_goes_on : (m : Map) (arc start n : ℕ) (before now : List ChainRef) (r : ChainRef) → arc < length m.arcs
+    → start + 1 < length (arc_at m arc) → r ≡ record { arc = arc; «from» = start; to = start + n; frame = r.frame }
+    → IsNextRun (drop start (arc_at m arc)) r.frame n → CutSoFar m arc start before now → CutSoFar m arc (start + n) before (now ++ r ∷ [])
 made_goes_on m arc start n before now r known edge made run h =
     let reach = reach_of (arc_at m arc) start n r.frame edge run in
     let some = reach.some in
@@ -48,35 +54,44 @@ made_goes_on m arc start n before now r known edge made run h =
       inside = reach.inside;
       added = h.added ++ r ∷ [];
       behind = ap (λ (rs : List ChainRef). rs ++ r ∷ []) h.behind ∙ append_assoc before h.added (r ∷ []);
-      lie = All-push (LiesInArc m) h.added r h.lie (subst (LiesInArc m) (sym made) (record { arc = known; edge = omega arith; within = reach.inside }));
+      lie = All-push (LiesInArc m) h.added r h.lie (subst (LiesInArc m) (sym made)
+          (record { arc = known; edge = omega arith; within = reach.inside }));
       short = All-push IsShort h.added r h.short (subst IsShort (sym made) (shorter start n reach.short));
       onward = λ ks cut.
           subst (λ (ls : List Chain). IsListCutInto (vertices_from arc 0 (arc_at m arc)) ls)
-          (sym (ap (λ (ls : List Chain). ls ++ ks) (map-append (chain_in m) h.added (r ∷ [])) ∙ append_assoc (map (chain_in m) h.added) (chain_in m r ∷ []) ks))
-          (h.onward (chain_in m r ∷ ks) (subst (λ (q : ChainRef). IsCutInto (vertex_in m arc start) (all_after m arc start) (chain_in m q ∷ ks)) (sym made) (cut_before m arc start n r.frame ks edge run cut)));
+          (sym (ap (λ (ls : List Chain). ls ++ ks) (map-append (chain_in m) h.added (r ∷ []))
+          ∙ append_assoc (map (chain_in m) h.added) (chain_in m r ∷ []) ks))
+          (h.onward (chain_in m r ∷ ks) (subst (λ (q : ChainRef).
+          IsCutInto (vertex_in m arc start) (all_after m arc start) (chain_in m q ∷ ks)) (sym made)
+          (cut_before m arc start n r.frame ks edge run cut)));
     }
   where
     shorter : (start n : ℕ) → n ≤ most_edges → start + n ≤ start + most_edges
     shorter start n few = omega arith
 
-pub cut_goes_on : (m : Map) (arc start : ℕ) (before now later : List ChainRef) (r : ChainRef) → arc < length m.arcs → start + 1 < length (arc_at m arc) → IsNextChainRef arc (arc_at m arc) start r → later ≡ now ++ r ∷ [] → CutSoFar m arc start before now → CutSoFar m arc r.to before later
+pub cut_goes_on : (m : Map) (arc start : ℕ) (before now later : List ChainRef) (r : ChainRef) → arc < length m.arcs
+    → start + 1 < length (arc_at m arc) → IsNextChainRef arc (arc_at m arc) start r → later ≡ now ++ r ∷ []
+    → CutSoFar m arc start before now → CutSoFar m arc r.to before later
 cut_goes_on m arc start before now later r known edge next pushed h =
     subst (λ (rs : List ChainRef). CutSoFar m arc r.to before rs) (sym pushed)
     (subst (λ (to : ℕ). CutSoFar m arc to before (now ++ r ∷ [])) (sym next.ends)
     (made_goes_on m arc start (r.to - start) before now r known edge (ref_made arc (arc_at m arc) start r next) next.run h))
 
-pub cut_ends : (m : Map) (arc start : ℕ) (before now : List ChainRef) → length (arc_at m arc) ≤ start + 1 → CutSoFar m arc start before now → AddsChainsOf m arc before now
+pub cut_ends : (m : Map) (arc start : ℕ) (before now : List ChainRef) → length (arc_at m arc) ≤ start + 1 → CutSoFar m arc start before now
+    → AddsChainsOf m arc before now
 cut_ends m arc start before now all h =
     record {
       added = h.added;
       behind = h.behind;
       lie = h.lie;
       short = h.short;
-      cut = subst (λ (ls : List Chain). IsListCutInto (vertices_from arc 0 (arc_at m arc)) ls) (append-nil (map (chain_in m) h.added)) (h.onward [] (none_left m arc start all));
+      cut = subst (λ (ls : List Chain). IsListCutInto (vertices_from arc 0 (arc_at m arc)) ls) (append-nil (map (chain_in m) h.added))
+          (h.onward [] (none_left m arc start all));
     }
   where
     none_left : (m : Map) (arc start : ℕ) → length (arc_at m arc) ≤ start + 1 → all_after m arc start ≡ []
-    none_left m arc start all = let none : length (arc_at m arc) - (start + 1) ≡ 0 = omega arith in ap (λ (n : ℕ). map (vertex_in m arc) (range_with_len (start + 1) n)) none
+    none_left m arc start all = let none : length (arc_at m arc) - (start + 1) ≡ 0 = omega arith in
+        ap (λ (n : ℕ). map (vertex_in m arc) (range_with_len (start + 1) n)) none
 
 -- ---- all arcs
 
@@ -86,7 +101,8 @@ pub record SplitSoFar (m : Map) (k : ℕ) (refs : List ChainRef) : Type 0 where
   pub short : All IsShort refs
   pub onward : (ks : List Chain) → AreChainsOf k (drop k m.arcs) ks → AreChainsOf 0 m.arcs (map (chain_in m) refs ++ ks)
 
-pub split_goes_on : (m : Map) (k : ℕ) (refs later : List ChainRef) → k < length m.arcs → SplitSoFar m k refs → AddsChainsOf m k refs later → SplitSoFar m (k + 1) later
+pub split_goes_on : (m : Map) (k : ℕ) (refs later : List ChainRef) → k < length m.arcs → SplitSoFar m k refs → AddsChainsOf m k refs later
+    → SplitSoFar m (k + 1) later
 split_goes_on m k refs later known h adds =
     subst (λ (rs : List ChainRef). SplitSoFar m (k + 1) rs) (sym adds.behind)
     (record {
@@ -94,7 +110,8 @@ split_goes_on m k refs later known h adds =
       short = All-append IsShort refs adds.added h.short adds.short;
       onward = λ ks are.
           subst (λ (ls : List Chain). AreChainsOf 0 m.arcs ls)
-          (sym (ap (λ (ls : List Chain). ls ++ ks) (map-append (chain_in m) refs adds.added) ∙ append_assoc (map (chain_in m) refs) (map (chain_in m) adds.added) ks))
+          (sym (ap (λ (ls : List Chain). ls ++ ks) (map-append (chain_in m) refs adds.added)
+          ∙ append_assoc (map (chain_in m) refs) (map (chain_in m) adds.added) ks))
           (h.onward (map (chain_in m) adds.added ++ ks)
           (subst (λ (pss : List (List Place)). AreChainsOf k pss (map (chain_in m) adds.added ++ ks)) (sym (drop-cons m.arcs k [] known))
           (map (chain_in m) adds.added, ks, refl, adds.cut, subst (λ (n : ℕ). AreChainsOf n (drop n m.arcs) ks) (add-one k) are)));
@@ -104,7 +121,8 @@ pub split_ends : (m : Map) (k : ℕ) (refs : List ChainRef) → length m.arcs �
 split_ends m k refs all h =
     record {
       lie = h.lie;
-      cut = subst (λ (ls : List Chain). AreChainsOf 0 m.arcs ls) (append-nil (map (chain_in m) refs)) (h.onward [] (subst (λ (pss : List (List Place)). AreChainsOf k pss []) (sym (drop_all k m.arcs all)) refl));
+      cut = subst (λ (ls : List Chain). AreChainsOf 0 m.arcs ls) (append-nil (map (chain_in m) refs))
+          (h.onward [] (subst (λ (pss : List (List Place)). AreChainsOf k pss []) (sym (drop_all k m.arcs all)) refl));
     }
 
 pub refs_bounded : (m : Map) (k : ℕ) (refs : List ChainRef) → IsMap m → length m.arcs ≤ k → SplitSoFar m k refs → AreChainRefs m refs

@@ -78,11 +78,20 @@ clear =
     record {
       others = λ c d o. absurd (alone zero c d o);
       own = own_lawful Plain v0 (v1 ∷ v2 ∷ []) (are.monotone zero);
-      points = λ p h. subst (λ (q : Place). EachEdge (λ a b. ¬ (IsOnSegment a.place b.place q)) v0 (v1 ∷ v2 ∷ [])) (one_town p h) (off_first, (off_second, tt));
+      points = λ p h. subst (λ (q : Place). EachEdge (λ a b. ¬ (IsOnSegment a.place b.place q)) v0 (v1 ∷ v2 ∷ [])) (one_town p h)
+          (off_first, (off_second, tt));
     }
 
 near : (k : ℕ) (d : Vertex) → k < 1 → IsWithinBound (pos 1) (pos 1) (pos 1) v0.place v2.place (get_or (v1 ∷ []) k d).place
-near zero d h = record { denominator = pos 2; numerator = pos 1; whole = omega (arith, ints); from_start = omega (arith, ints); to_end = omega (arith, ints); near = omega (arith, ints) }
+near zero d h = record {
+  denominator = pos 2;
+  numerator = pos 1;
+  whole = omega (arith, ints);
+  from_start = omega (arith, ints);
+  to_end =
+      omega (arith, ints);
+  near = omega (arith, ints);
+}
 near (suc k) d h = absurd (omega arith)
 
 path : IsPathIn (IsWithinBound (pos 1) (pos 1) (pos 1)) bump (town ∷ []) zero (v2 ∷ [])

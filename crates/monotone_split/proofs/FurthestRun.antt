@@ -1,5 +1,6 @@
 -- The furthest run from a position: how far its edges go the way of the first one.
-use Rattle.std.proofs.Common.{◌≡◌, ◌↔◌, ◌∙◌, ◌==◌, Bool, true, false, not, ℕ, zero, suc, ◌+◌, ◌<◌, ◌≤◌, List, [], ◌∷◌, length, get_or, take, refl, sym, ap, subst, arith, add-one}
+use Rattle.std.proofs.Common.{◌≡◌, ◌↔◌, ◌∙◌, ◌==◌, Bool, true, false, not, ℕ, zero, suc, ◌+◌, ◌<◌, ◌≤◌, List, [], ◌∷◌, length, get_or, take}
+use Rattle.std.proofs.Common.{refl, sym, ap, subst, arith, add-one}
 use Rattle.std.specs.Ordering.{ordering_index}
 use Rattle.std.specs.declared.cmp.Ordering.{Ordering}
 use Rattle.std.specs.declared.cmp.Ordering.TheVariants.{Less, Equal, Greater}
@@ -47,18 +48,22 @@ falls frame Greater a b goes h = refl
 
 -- ---- edges by number
 
-next_place : (P : Place → Place → Type 0) (ps : List Place) (k : ℕ) → P (get_or ps k nowhere) (get_or ps (k + 1) nowhere) → P (get_or ps k nowhere) (get_or ps (suc k) nowhere)
+next_place : (P : Place → Place → Type 0) (ps : List Place) (k : ℕ) → P (get_or ps k nowhere) (get_or ps (k + 1) nowhere)
+    → P (get_or ps k nowhere) (get_or ps (suc k) nowhere)
 next_place P ps k h = subst (λ (i : ℕ). P (get_or ps k nowhere) (get_or ps i nowhere)) (add-one k) h
 
-this_place : (P : Place → Place → Type 0) (ps : List Place) (k : ℕ) → P (get_or ps k nowhere) (get_or ps (suc k) nowhere) → P (get_or ps k nowhere) (get_or ps (k + 1) nowhere)
+this_place : (P : Place → Place → Type 0) (ps : List Place) (k : ℕ) → P (get_or ps k nowhere) (get_or ps (suc k) nowhere)
+    → P (get_or ps k nowhere) (get_or ps (k + 1) nowhere)
 this_place P ps k h = subst (λ (i : ℕ). P (get_or ps k nowhere) (get_or ps i nowhere)) (sym (add-one k)) h
 
-each_from : (P : Place → Place → Type 0) (n : ℕ) (v : Place) (ws : List Place) → n ≤ length ws → ((k : ℕ) → k < n → P (get_or (v ∷ ws) k nowhere) (get_or (v ∷ ws) (suc k) nowhere)) → EachEdge P v (take n ws)
+each_from : (P : Place → Place → Type 0) (n : ℕ) (v : Place) (ws : List Place) → n ≤ length ws
+    → ((k : ℕ) → k < n → P (get_or (v ∷ ws) k nowhere) (get_or (v ∷ ws) (suc k) nowhere)) → EachEdge P v (take n ws)
 each_from P zero v ws few f = tt
 each_from P (suc n) v [] few f = absurd (omega arith)
 each_from P (suc n) v (w ∷ ws) few f = (f 0 (omega arith), each_from P n w ws (omega arith) (λ k below. f (suc k) (omega arith)))
 
-edge_at : (P : Place → Place → Type 0) (n : ℕ) (v : Place) (ws : List Place) (k : ℕ) → k < n → n ≤ length ws → EachEdge P v (take n ws) → P (get_or (v ∷ ws) k nowhere) (get_or (v ∷ ws) (suc k) nowhere)
+edge_at : (P : Place → Place → Type 0) (n : ℕ) (v : Place) (ws : List Place) (k : ℕ) → k < n → n ≤ length ws → EachEdge P v (take n ws)
+    → P (get_or (v ∷ ws) k nowhere) (get_or (v ∷ ws) (suc k) nowhere)
 edge_at P zero v ws k below few h = absurd (omega arith)
 edge_at P (suc n) v [] k below few h = absurd (omega arith)
 edge_at P (suc n) v (w ∷ ws) zero below few h = h.0
@@ -67,37 +72,52 @@ edge_at P (suc n) v (w ∷ ws) (suc k) below few h = edge_at P n w ws k (omega a
 -- ---- runs
 
 -- the first two positions of an arc differ
-firsts_differ : (frame : Frame) (ps : List Place) → 1 < length ps → IsArc ps → Goes frame Equal (get_or ps 0 nowhere) (get_or ps 1 nowhere) → ⊥
+firsts_differ : (frame : Frame) (ps : List Place) → 1 < length ps → IsArc ps → Goes frame Equal (get_or ps 0 nowhere) (get_or ps 1 nowhere)
+    → ⊥
 firsts_differ frame [] more arc same = omega arith
 firsts_differ frame (p ∷ []) more arc same = omega arith
 firsts_differ frame (p ∷ q ∷ ps) more arc same = arc.0 same
 
-run_from : (frame : Frame) (way : Ordering) (ps : List Place) (n : ℕ) → 1 < length ps → IsArc ps → 0 < n → n < length ps → RunsSo frame way ps n → IsRun frame ps n
+run_from : (frame : Frame) (way : Ordering) (ps : List Place) (n : ℕ) → 1 < length ps → IsArc ps → 0 < n → n < length ps
+    → RunsSo frame way ps n → IsRun frame ps n
 run_from frame way [] n more arc some inside runs = absurd (omega arith)
-run_from frame Less (p ∷ ps) n more arc some inside runs = Increasing (each_from (λ a b. IsBeforeIn frame a b) n p ps (omega arith) (λ k below. next_place (λ a b. IsBeforeIn frame a b) (p ∷ ps) k (runs k below)))
+run_from frame Less (p ∷ ps) n more arc some inside runs = Increasing
+    (each_from (λ a b. IsBeforeIn frame a b) n p ps (omega arith) (λ k below.
+    next_place (λ a b. IsBeforeIn frame a b) (p ∷ ps) k (runs k below)))
 run_from frame Equal (p ∷ ps) n more arc some inside runs = absurd (firsts_differ frame (p ∷ ps) more arc (runs 0 some))
-run_from frame Greater (p ∷ ps) n more arc some inside runs = Decreasing (each_from (λ a b. IsBeforeIn frame b a) n p ps (omega arith) (λ k below. next_place (λ a b. IsBeforeIn frame b a) (p ∷ ps) k (runs k below)))
+run_from frame Greater (p ∷ ps) n more arc some inside runs = Decreasing
+    (each_from (λ a b. IsBeforeIn frame b a) n p ps (omega arith) (λ k below.
+    next_place (λ a b. IsBeforeIn frame b a) (p ∷ ps) k (runs k below)))
 
 -- an edge that goes another way than the first one is in no run
-pub run_stops : (frame : Frame) (way : Ordering) (ps : List Place) (n k : ℕ) → Goes frame way (get_or ps 0 nowhere) (get_or ps 1 nowhere) → (Goes frame way (get_or ps n nowhere) (get_or ps (n + 1) nowhere) → ⊥) → n < k → k < length ps → IsRun frame ps k → ⊥
+pub run_stops : (frame : Frame) (way : Ordering) (ps : List Place) (n k : ℕ) → Goes frame way (get_or ps 0 nowhere) (get_or ps 1 nowhere)
+    → (Goes frame way (get_or ps n nowhere) (get_or ps (n + 1) nowhere) → ⊥) → n < k → k < length ps → IsRun frame ps k → ⊥
 run_stops frame way [] n k first stops past inside run = omega arith
 run_stops frame way (p ∷ ps) n k first stops past inside (Increasing h) =
-    let low : IsBeforeIn frame p (get_or (p ∷ ps) 1 nowhere) = edge_at (λ a b. IsBeforeIn frame a b) k p ps 0 (omega arith) (omega arith) h in
+    let low : IsBeforeIn frame p (get_or (p ∷ ps) 1 nowhere) = edge_at (λ a b. IsBeforeIn frame a b) k p ps 0 (omega arith) (omega arith) h
+    in
     let same : way ≡ Less = rises frame way p (get_or (p ∷ ps) 1 nowhere) first low in
-    stops (this_place (Goes frame way) (p ∷ ps) n (subst (λ (w : Ordering). Goes frame w (get_or (p ∷ ps) n nowhere) (get_or (p ∷ ps) (suc n) nowhere)) (sym same) (edge_at (λ a b. IsBeforeIn frame a b) k p ps n past (omega arith) h)))
+    stops (this_place (Goes frame way) (p ∷ ps) n (subst (λ (w : Ordering).
+    Goes frame w (get_or (p ∷ ps) n nowhere) (get_or (p ∷ ps) (suc n) nowhere)) (sym same)
+    (edge_at (λ a b. IsBeforeIn frame a b) k p ps n past (omega arith) h)))
 run_stops frame way (p ∷ ps) n k first stops past inside (Decreasing h) =
-    let low : IsBeforeIn frame (get_or (p ∷ ps) 1 nowhere) p = edge_at (λ a b. IsBeforeIn frame b a) k p ps 0 (omega arith) (omega arith) h in
+    let low : IsBeforeIn frame (get_or (p ∷ ps) 1 nowhere) p = edge_at (λ a b. IsBeforeIn frame b a) k p ps 0 (omega arith) (omega arith) h
+    in
     let same : way ≡ Greater = falls frame way p (get_or (p ∷ ps) 1 nowhere) first low in
-    stops (this_place (Goes frame way) (p ∷ ps) n (subst (λ (w : Ordering). Goes frame w (get_or (p ∷ ps) n nowhere) (get_or (p ∷ ps) (suc n) nowhere)) (sym same) (edge_at (λ a b. IsBeforeIn frame b a) k p ps n past (omega arith) h)))
+    stops (this_place (Goes frame way) (p ∷ ps) n (subst (λ (w : Ordering).
+    Goes frame w (get_or (p ∷ ps) n nowhere) (get_or (p ∷ ps) (suc n) nowhere)) (sym same)
+    (edge_at (λ a b. IsBeforeIn frame b a) k p ps n past (omega arith) h)))
 
 -- ---- what `order` and a test of its answers say
 
-pub goes_by : (frame : Frame) (way : Ordering) (a b : Place) → (way ≡ Less ↔ IsBeforeIn frame a b) → (way ≡ Equal ↔ (a ≡ b)) → (way ≡ Greater ↔ IsBeforeIn frame b a) → Goes frame way a b
+pub goes_by : (frame : Frame) (way : Ordering) (a b : Place) → (way ≡ Less ↔ IsBeforeIn frame a b) → (way ≡ Equal ↔ (a ≡ b))
+    → (way ≡ Greater ↔ IsBeforeIn frame b a) → Goes frame way a b
 goes_by frame Less a b less equal greater = less.0 refl
 goes_by frame Equal a b less equal greater = equal.0 refl
 goes_by frame Greater a b less equal greater = greater.0 refl
 
-way_by : (frame : Frame) (way other : Ordering) (a b : Place) → (way ≡ Less ↔ IsBeforeIn frame a b) → (way ≡ Equal ↔ (a ≡ b)) → (way ≡ Greater ↔ IsBeforeIn frame b a) → Goes frame other a b → way ≡ other
+way_by : (frame : Frame) (way other : Ordering) (a b : Place) → (way ≡ Less ↔ IsBeforeIn frame a b) → (way ≡ Equal ↔ (a ≡ b))
+    → (way ≡ Greater ↔ IsBeforeIn frame b a) → Goes frame other a b → way ≡ other
 way_by frame way Less a b less equal greater goes = less.1 goes
 way_by frame way Equal a b less equal greater goes = equal.1 goes
 way_by frame way Greater a b less equal greater goes = greater.1 goes
@@ -131,22 +151,34 @@ place_at (q ∷ ps) zero p below read = sym read
 place_at (q ∷ ps) (suc k) p below read = place_at ps k p (omega arith) read
 
 -- an edge that was read goes this way in the list
-pub goes_in_list : (frame : Frame) (way : Ordering) (ps : List Place) (k : ℕ) (a b : Place) → k + 1 < length ps → a ≡ get_or ps k a → b ≡ get_or ps (k + 1) b → Goes frame way a b → Goes frame way (get_or ps k nowhere) (get_or ps (k + 1) nowhere)
-goes_in_list frame way ps k a b inside first second goes = rw (place_at ps k a (omega arith) first, place_at ps (k + 1) b inside second) goes
+pub goes_in_list : (frame : Frame) (way : Ordering) (ps : List Place) (k : ℕ) (a b : Place) → k + 1 < length ps → a ≡ get_or ps k a
+    → b ≡ get_or ps (k + 1) b → Goes frame way a b → Goes frame way (get_or ps k nowhere) (get_or ps (k + 1) nowhere)
+goes_in_list frame way ps k a b inside first second goes = rw (place_at ps k a (omega arith) first, place_at ps (k + 1) b inside second)
+    goes
 
-pub goes_same_way : (frame : Frame) (way other : Ordering) (ps : List Place) (k : ℕ) (a b : Place) (t : Bool) → k + 1 < length ps → a ≡ get_or ps k a → b ≡ get_or ps (k + 1) b → (way ≡ Less ↔ IsBeforeIn frame a b) → (way ≡ Equal ↔ (a ≡ b)) → (way ≡ Greater ↔ IsBeforeIn frame b a) → t ≡ not (ordering_index way == ordering_index other) → t ≡ false → Goes frame other (get_or ps k nowhere) (get_or ps (k + 1) nowhere)
+pub goes_same_way : (frame : Frame) (way other : Ordering) (ps : List Place) (k : ℕ) (a b : Place) (t : Bool) → k + 1 < length ps
+    → a ≡ get_or ps k a → b ≡ get_or ps (k + 1) b → (way ≡ Less ↔ IsBeforeIn frame a b) → (way ≡ Equal ↔ (a ≡ b))
+    → (way ≡ Greater ↔ IsBeforeIn frame b a) → t ≡ not (ordering_index way == ordering_index other) → t ≡ false
+    → Goes frame other (get_or ps k nowhere) (get_or ps (k + 1) nowhere)
 goes_same_way frame way other ps k a b t inside first second less equal greater test answer =
-    goes_in_list frame other ps k a b inside first second (subst (λ (w : Ordering). Goes frame w a b) (same_by_test way other t test answer) (goes_by frame way a b less equal greater))
+    goes_in_list frame other ps k a b inside first second (subst (λ (w : Ordering). Goes frame w a b) (same_by_test way other t test answer)
+    (goes_by frame way a b less equal greater))
 
-pub goes_other_way : (frame : Frame) (way other : Ordering) (ps : List Place) (k : ℕ) (a b : Place) (t : Bool) → k + 1 < length ps → a ≡ get_or ps k a → b ≡ get_or ps (k + 1) b → (way ≡ Less ↔ IsBeforeIn frame a b) → (way ≡ Equal ↔ (a ≡ b)) → (way ≡ Greater ↔ IsBeforeIn frame b a) → t ≡ not (ordering_index way == ordering_index other) → t ≡ true → Goes frame other (get_or ps k nowhere) (get_or ps (k + 1) nowhere) → ⊥
+pub goes_other_way : (frame : Frame) (way other : Ordering) (ps : List Place) (k : ℕ) (a b : Place) (t : Bool) → k + 1 < length ps
+    → a ≡ get_or ps k a → b ≡ get_or ps (k + 1) b → (way ≡ Less ↔ IsBeforeIn frame a b) → (way ≡ Equal ↔ (a ≡ b))
+    → (way ≡ Greater ↔ IsBeforeIn frame b a) → t ≡ not (ordering_index way == ordering_index other) → t ≡ true
+    → Goes frame other (get_or ps k nowhere) (get_or ps (k + 1) nowhere) → ⊥
 goes_other_way frame way other ps k a b t inside first second less equal greater test answer goes =
-    let there : Goes frame other a b = subst (λ (p : Place). Goes frame other p b) (place_at ps k a (omega arith) first) (subst (λ (q : Place). Goes frame other (get_or ps k nowhere) q) (place_at ps (k + 1) b inside second) goes) in
+    let there : Goes frame other a b = subst (λ (p : Place). Goes frame other p b) (place_at ps k a (omega arith) first)
+    (subst (λ (q : Place). Goes frame other (get_or ps k nowhere) q) (place_at ps (k + 1) b inside second) goes) in
     other_by_test way other t test answer (way_by frame way other a b less equal greater there)
 
 -- ---- the furthest run
 
 -- the run ends where an edge goes another way
-pub furthest_where_it_turns : (frame : Frame) (way : Ordering) (ps : List Place) (n limit : ℕ) → 1 < length ps → IsArc ps → 0 < n → n < limit → limit < length ps → limit ≤ most_edges → RunsSo frame way ps n → (Goes frame way (get_or ps n nowhere) (get_or ps (n + 1) nowhere) → ⊥) → IsFurthestRun frame ps n
+pub furthest_where_it_turns : (frame : Frame) (way : Ordering) (ps : List Place) (n limit : ℕ) → 1 < length ps → IsArc ps → 0 < n
+    → n < limit → limit < length ps → limit ≤ most_edges → RunsSo frame way ps n
+    → (Goes frame way (get_or ps n nowhere) (get_or ps (n + 1) nowhere) → ⊥) → IsFurthestRun frame ps n
 furthest_where_it_turns frame way ps n limit more arc some below inside within runs stops =
     record {
       some = some;
@@ -160,7 +192,8 @@ furthest_where_it_turns frame way ps n limit more arc some below inside within r
     at_most_unless n k not = omega (arith, not)
 
 -- or where the arc or the limit ends
-pub furthest_to_the_end : (frame : Frame) (way : Ordering) (ps : List Place) (n : ℕ) → 1 < length ps → IsArc ps → 0 < n → n < length ps → n ≤ most_edges → (n + 1 < length ps → n ≡ most_edges) → RunsSo frame way ps n → IsFurthestRun frame ps n
+pub furthest_to_the_end : (frame : Frame) (way : Ordering) (ps : List Place) (n : ℕ) → 1 < length ps → IsArc ps → 0 < n → n < length ps
+    → n ≤ most_edges → (n + 1 < length ps → n ≡ most_edges) → RunsSo frame way ps n → IsFurthestRun frame ps n
 furthest_to_the_end frame way ps n more arc some inside within last runs =
     record {
       some = some;

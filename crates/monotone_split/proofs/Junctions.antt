@@ -2,7 +2,8 @@
 use Rattle.std.proofs.Common.{◌≡◌, ◌⊎◌, inl, inr, ℤ, pos, ◌≤ℤ◌, arith}
 use Rattle.std.proofs.lemmas.Int.{ints}
 use Rattle.grid_exact.specs.Geometry.{IsOnSegment}
-use Rattle.grid_exact.proofs.Commons.{at_start, at_end, common_at_start, common_at_end, common_starts, common_start_and_end, common_end_and_start, common_ends}
+use Rattle.grid_exact.proofs.Commons.{at_start, at_end, common_at_start, common_at_end, common_starts, common_start_and_end}
+use Rattle.grid_exact.proofs.Commons.{common_end_and_start, common_ends}
 use Rattle.arc_map.specs.Vertices.{Vertex, MayJoin, MeetLawfully}
 use Rattle.arc_map.specs.Vertices.IsJunction.{Starts, StartAndEnd, EndAndStart, Ends}
 
@@ -59,7 +60,8 @@ some_denominator_back : (n : ℤ) → pos 1 ≤ℤ n → n ≡ pos 0 → ⊥
 some_denominator_back n one e = omega (arith, ints)
 
 -- the start of a lawful edge lies on the other only as one of its ends
-pub start_on_other : (a b c d : Vertex) → MeetLawfully a b c d → IsOnSegment c.place d.place a.place → (a.place ≡ c.place) ⊎ (a.place ≡ d.place)
+pub start_on_other : (a b c d : Vertex) → MeetLawfully a b c d → IsOnSegment c.place d.place a.place
+    → (a.place ≡ c.place) ⊎ (a.place ≡ d.place)
 start_on_other a b c d lawful on =
     elim (lawful (common_at_start a.place b.place c.place d.place on)) [
       | Starts e f m ↦ inl (at_start c.place d.place a.place on f)
@@ -68,7 +70,8 @@ start_on_other a b c d lawful on =
       | Ends e f m ↦ absurd (some_denominator on.denominator on.whole e)
     ]
 
-pub end_on_other : (a b c d : Vertex) → MeetLawfully a b c d → IsOnSegment c.place d.place b.place → (b.place ≡ c.place) ⊎ (b.place ≡ d.place)
+pub end_on_other : (a b c d : Vertex) → MeetLawfully a b c d → IsOnSegment c.place d.place b.place
+    → (b.place ≡ c.place) ⊎ (b.place ≡ d.place)
 end_on_other a b c d lawful on =
     elim (lawful (common_at_end a.place b.place c.place d.place on)) [
       | Starts e f m ↦ absurd (some_denominator_back on.denominator on.whole e)

@@ -1,5 +1,6 @@
 -- The edges of a map by their names and in their list: it is arranged by the one exactly where it is by the other.
-use Rattle.std.proofs.Common.{◌≡◌, ◌⊎◌, inl, inr, ◌∙◌, ℕ, zero, suc, ◌+◌, ◌-◌, ◌<◌, ◌≤◌, ◌==◌, ◌&&◌, IsTrue, List, [], ◌∷◌, length, get_or, map, drop, refl, sym, ap, subst, arith, add-one, length-drop}
+use Rattle.std.proofs.Common.{◌≡◌, ◌⊎◌, inl, inr, ◌∙◌, ℕ, zero, suc, ◌+◌, ◌-◌, ◌<◌, ◌≤◌, ◌==◌, ◌&&◌, IsTrue, List, [], ◌∷◌, length, get_or}
+use Rattle.std.proofs.Common.{map, drop, refl, sym, ap, subst, arith, add-one, length-drop}
 use Rattle.std.specs.Prelude.{Contains}
 use Rattle.std.specs.List.{range_with_len}
 use Rattle.std.proofs.lemmas.Bool.Decides.{nat_tests}
@@ -31,7 +32,8 @@ edges_in m arc = map (named m arc) (range_with_len 0 (edge_count m arc))
 
 -- ---- the edges of one arc
 
-edges_numbered : (m : Map) (arc at n : ℕ) → edges_of (vertex_in m arc at) (map (vertex_in m arc) (range_with_len (at + 1) n)) ≡ map (named m arc) (range_with_len at n)
+edges_numbered : (m : Map) (arc at n : ℕ) → edges_of (vertex_in m arc at) (map (vertex_in m arc) (range_with_len (at + 1) n))
+    ≡ map (named m arc) (range_with_len at n)
 edges_numbered m arc at zero = refl
 edges_numbered m arc at (suc n) = ap (λ (es : List Edge). named m arc at ∷ es) (edges_numbered m arc (at + 1) n)
 
@@ -40,7 +42,8 @@ edges_of_arc m arc = ap edges_of_list (vertices_numbered m arc 0 (arc_at m arc) 
   where
     counted : (n : ℕ) → edges_of_list (map (vertex_in m arc) (range_with_len 0 n)) ≡ map (named m arc) (range_with_len 0 (n - 1))
     counted zero = refl
-    counted (suc n) = let less : suc n - 1 ≡ n = omega arith in edges_numbered m arc 0 n ∙ ap (λ (k : ℕ). map (named m arc) (range_with_len 0 k)) (sym less)
+    counted (suc n) = let less : suc n - 1 ≡ n = omega arith in edges_numbered m arc 0 n
+        ∙ ap (λ (k : ℕ). map (named m arc) (range_with_len 0 k)) (sym less)
 
 -- ---- mapped numbers
 
@@ -67,14 +70,16 @@ in_range P g a (suc n) k h low high =
       | Later more ↦ in_range P g (a + 1) n k h.1 (omega arith) (omega arith)
     ]
 
-two_of_range : (R : Edge → Edge → Type 0) (g : ℕ → Edge) (a n : ℕ) → ((j k : ℕ) → a ≤ j → j < k → k < a + n → R (g j) (g k)) → EachTwo R (map g (range_with_len a n))
+two_of_range : (R : Edge → Edge → Type 0) (g : ℕ → Edge) (a n : ℕ) → ((j k : ℕ) → a ≤ j → j < k → k < a + n → R (g j) (g k))
+    → EachTwo R (map g (range_with_len a n))
 two_of_range R g a zero f = tt
 two_of_range R g a (suc n) f = (
   of_range (R (g a)) g (a + 1) n (λ k low high. f a k (omega arith) (omega arith) (omega arith)),
   two_of_range R g (a + 1) n (λ j k low rising high. f j k (omega arith) rising (omega arith)),
 )
 
-two_in_range : (R : Edge → Edge → Type 0) (g : ℕ → Edge) (a n j k : ℕ) → EachTwo R (map g (range_with_len a n)) → a ≤ j → j < k → k < a + n → R (g j) (g k)
+two_in_range : (R : Edge → Edge → Type 0) (g : ℕ → Edge) (a n j k : ℕ) → EachTwo R (map g (range_with_len a n)) → a ≤ j → j < k → k < a + n
+    → R (g j) (g k)
 two_in_range R g a zero j k h low rising high = absurd (omega arith)
 two_in_range R g a (suc n) j k h low rising high =
     elim (from_number a j low) [
@@ -94,8 +99,10 @@ arcs_later m arc ps pss e =
     let next : drop (arc + 1) m.arcs ≡ pss = sym (drop-drop 1 arc m.arcs) ∙ ap (λ (qss : List (List Place)). drop 1 qss) e in
     ap (λ (k : ℕ). drop k m.arcs) (sym (add-one arc)) ∙ next
 
-first_edges : (m : Map) (arc : ℕ) (ps : List Place) (pss : List (List Place)) → drop arc m.arcs ≡ ps ∷ pss → edges_of_list (vertices_from arc 0 ps) ≡ edges_in m arc
-first_edges m arc ps pss e = ap (λ (qs : List Place). edges_of_list (vertices_from arc 0 qs)) (sym (arc_here m arc ps pss e)) ∙ edges_of_arc m arc
+first_edges : (m : Map) (arc : ℕ) (ps : List Place) (pss : List (List Place)) → drop arc m.arcs ≡ ps ∷ pss
+    → edges_of_list (vertices_from arc 0 ps) ≡ edges_in m arc
+first_edges m arc ps pss e = ap (λ (qs : List Place). edges_of_list (vertices_from arc 0 qs)) (sym (arc_here m arc ps pss e))
+    ∙ edges_of_arc m arc
 
 -- past the last arc there is no edge
 none_past : (m : Map) (arc n at : ℕ) → drop arc m.arcs ≡ [] → arc ≤ n → at + 1 < length (arc_at m n) → ⊥
@@ -113,63 +120,80 @@ none_past m arc n at e past inside =
 abbrev Named : (P : Edge → Type 0) → Map → ℕ → Type 0
 Named P m arc = (n at : ℕ) → arc ≤ n → at + 1 < length (arc_at m n) → P (named m n at)
 
-to_list : (P : Edge → Type 0) (m : Map) (arc : ℕ) (pss : List (List Place)) → drop arc m.arcs ≡ pss → Named P m arc → EachOf P (edges_of_arcs arc pss)
+to_list : (P : Edge → Type 0) (m : Map) (arc : ℕ) (pss : List (List Place)) → drop arc m.arcs ≡ pss → Named P m arc
+    → EachOf P (edges_of_arcs arc pss)
 to_list P m arc [] e f = tt
 to_list P m arc (ps ∷ pss) e f =
     of_both P (edges_of_list (vertices_from arc 0 ps)) (edges_of_arcs (suc arc) pss)
-    (subst (λ (es : List Edge). EachOf P es) (sym (first_edges m arc ps pss e)) (of_range P (named m arc) 0 (edge_count m arc) (λ k low high. f arc k (omega arith) (omega arith))))
+    (subst (λ (es : List Edge). EachOf P es) (sym (first_edges m arc ps pss e))
+    (of_range P (named m arc) 0 (edge_count m arc) (λ k low high. f arc k (omega arith) (omega arith))))
     (to_list P m (suc arc) pss (arcs_later m arc ps pss e) (λ n at past inside. f n at (omega arith) inside))
 
 in_arc : (P : Edge → Type 0) (m : Map) (arc at : ℕ) → EachOf P (edges_in m arc) → at + 1 < length (arc_at m arc) → P (named m arc at)
 in_arc P m arc at h inside = in_range P (named m arc) 0 (edge_count m arc) at h (omega arith) (omega arith)
 
-from_list : (P : Edge → Type 0) (m : Map) (arc : ℕ) (pss : List (List Place)) → drop arc m.arcs ≡ pss → EachOf P (edges_of_arcs arc pss) → Named P m arc
+from_list : (P : Edge → Type 0) (m : Map) (arc : ℕ) (pss : List (List Place)) → drop arc m.arcs ≡ pss → EachOf P (edges_of_arcs arc pss)
+    → Named P m arc
 from_list P m arc [] e h n at past inside = absurd (none_past m arc n at e past inside)
 from_list P m arc (ps ∷ pss) e h n at past inside =
     elim (from_number arc n past) [
       | Here same ↦
           subst (λ (k : ℕ). P (named m k at)) same
-          (in_arc P m arc at (subst (λ (es : List Edge). EachOf P es) (first_edges m arc ps pss e) (of_first P (edges_of_list (vertices_from arc 0 ps)) (edges_of_arcs (suc arc) pss) h))
+          (in_arc P m arc at (subst (λ (es : List Edge). EachOf P es) (first_edges m arc ps pss e)
+          (of_first P (edges_of_list (vertices_from arc 0 ps)) (edges_of_arcs (suc arc) pss) h))
           (subst (λ (k : ℕ). at + 1 < length (arc_at m k)) (sym same) inside))
-      | Later more ↦ from_list P m (suc arc) pss (arcs_later m arc ps pss e) (of_second P (edges_of_list (vertices_from arc 0 ps)) (edges_of_arcs (suc arc) pss) h) n at more inside
+      | Later more ↦ from_list P m (suc arc) pss (arcs_later m arc ps pss e)
+          (of_second P (edges_of_list (vertices_from arc 0 ps)) (edges_of_arcs (suc arc) pss) h) n at more inside
     ]
 
 -- each edge has the relation to each later one, by names
 abbrev TwoNamed : (R : Edge → Edge → Type 0) → Map → ℕ → Type 0
-TwoNamed R m arc = (n at k to : ℕ) → arc ≤ n → at + 1 < length (arc_at m n) → to + 1 < length (arc_at m k) → (n < k) ⊎ ((n ≡ k) × (at < to)) → R (named m n at) (named m k to)
+TwoNamed R m arc = (n at k to : ℕ) → arc ≤ n → at + 1 < length (arc_at m n) → to + 1 < length (arc_at m k) → (n < k) ⊎ ((n ≡ k) × (at < to))
+    → R (named m n at) (named m k to)
 
-to_two : (R : Edge → Edge → Type 0) (m : Map) (arc : ℕ) (pss : List (List Place)) → drop arc m.arcs ≡ pss → TwoNamed R m arc → EachTwo R (edges_of_arcs arc pss)
+to_two : (R : Edge → Edge → Type 0) (m : Map) (arc : ℕ) (pss : List (List Place)) → drop arc m.arcs ≡ pss → TwoNamed R m arc
+    → EachTwo R (edges_of_arcs arc pss)
 to_two R m arc [] e f = tt
 to_two R m arc (ps ∷ pss) e f =
     let later = arcs_later m arc ps pss e in
     two_joined R (edges_of_list (vertices_from arc 0 ps)) (edges_of_arcs (suc arc) pss)
-    (subst (λ (es : List Edge). EachTwo R es) (sym (first_edges m arc ps pss e)) (two_of_range R (named m arc) 0 (edge_count m arc) (λ j k low rising high. f arc j arc k (omega arith) (omega arith) (omega arith) (inr (refl, rising)))))
+    (subst (λ (es : List Edge). EachTwo R es) (sym (first_edges m arc ps pss e))
+    (two_of_range R (named m arc) 0 (edge_count m arc) (λ j k low rising high.
+    f arc j arc k (omega arith) (omega arith) (omega arith) (inr (refl, rising)))))
     (to_two R m (suc arc) pss later (λ n at k to past inside there order. f n at k to (omega arith) inside there order))
     (subst (λ (es : List Edge). EachOf (λ x. EachOf (R x) (edges_of_arcs (suc arc) pss)) es) (sym (first_edges m arc ps pss e))
     (of_range (λ x. EachOf (R x) (edges_of_arcs (suc arc) pss)) (named m arc) 0 (edge_count m arc)
-    (λ j low high. to_list (R (named m arc j)) m (suc arc) pss later (λ n at past inside. f arc j n at (omega arith) (omega arith) inside (inl (omega arith))))))
+    (λ j low high. to_list (R (named m arc j)) m (suc arc) pss later (λ n at past inside.
+    f arc j n at (omega arith) (omega arith) inside (inl (omega arith))))))
 
-from_two : (R : Edge → Edge → Type 0) (m : Map) (arc : ℕ) (pss : List (List Place)) → drop arc m.arcs ≡ pss → EachTwo R (edges_of_arcs arc pss) → TwoNamed R m arc
+from_two : (R : Edge → Edge → Type 0) (m : Map) (arc : ℕ) (pss : List (List Place)) → drop arc m.arcs ≡ pss
+    → EachTwo R (edges_of_arcs arc pss) → TwoNamed R m arc
 from_two R m arc [] e h n at k to past inside there order = absurd (none_past m arc n at e past inside)
 from_two R m arc (ps ∷ pss) e h n at k to past inside there order =
     elim (from_number arc n past) [
-      | Later more ↦ from_two R m (suc arc) pss (arcs_later m arc ps pss e) (two_second R (edges_of_list (vertices_from arc 0 ps)) (edges_of_arcs (suc arc) pss) h) n at k to more inside there order
+      | Later more ↦ from_two R m (suc arc) pss (arcs_later m arc ps pss e)
+          (two_second R (edges_of_list (vertices_from arc 0 ps)) (edges_of_arcs (suc arc) pss) h) n at k to more inside there order
       | Here same ↦
-          subst (λ (i : ℕ). R (named m i at) (named m k to)) same (first (subst (λ (i : ℕ). at + 1 < length (arc_at m i)) (sym same) inside) (subst (λ (i : ℕ). (i < k) ⊎ ((i ≡ k) × (at < to))) (sym same) order))
+          subst (λ (i : ℕ). R (named m i at) (named m k to)) same
+          (first (subst (λ (i : ℕ). at + 1 < length (arc_at m i)) (sym same) inside)
+          (subst (λ (i : ℕ). (i < k) ⊎ ((i ≡ k) × (at < to))) (sym same) order))
     ]
   where
     first : at + 1 < length (arc_at m arc) → (arc < k) ⊎ ((arc ≡ k) × (at < to)) → R (named m arc at) (named m k to)
     first here (inl before) =
         from_list (R (named m arc at)) m (suc arc) pss (arcs_later m arc ps pss e)
         (in_arc (λ x. EachOf (R x) (edges_of_arcs (suc arc) pss)) m arc at
-        (subst (λ (es : List Edge). EachOf (λ x. EachOf (R x) (edges_of_arcs (suc arc) pss)) es) (first_edges m arc ps pss e) (two_across R (edges_of_list (vertices_from arc 0 ps)) (edges_of_arcs (suc arc) pss) h))
+        (subst (λ (es : List Edge). EachOf (λ x. EachOf (R x) (edges_of_arcs (suc arc) pss)) es) (first_edges m arc ps pss e)
+        (two_across R (edges_of_list (vertices_from arc 0 ps)) (edges_of_arcs (suc arc) pss) h))
         here)
         k to (omega arith) there
     first here (inr own) =
         subst (λ (i : ℕ). R (named m arc at) (named m i to)) own.0
         (two_in_range R (named m arc) 0 (edge_count m arc) at to
-        (subst (λ (es : List Edge). EachTwo R es) (first_edges m arc ps pss e) (two_first R (edges_of_list (vertices_from arc 0 ps)) (edges_of_arcs (suc arc) pss) h))
-        (omega arith) own.1 (let inside' : to + 1 < length (arc_at m arc) = subst (λ (i : ℕ). to + 1 < length (arc_at m i)) (sym own.0) there in omega arith))
+        (subst (λ (es : List Edge). EachTwo R es) (first_edges m arc ps pss e)
+        (two_first R (edges_of_list (vertices_from arc 0 ps)) (edges_of_arcs (suc arc) pss) h))
+        (omega arith) own.1 (let inside' : to + 1 < length (arc_at m arc) =
+        subst (λ (i : ℕ). to + 1 < length (arc_at m i)) (sym own.0) there in omega arith))
 
 -- ---- flags by names
 
@@ -186,7 +210,9 @@ names_differ : (m : Map) (e f : EdgeRef) (i : ℕ) → IsEarlier e f → ¬ (ver
 names_differ m e f i (inl before) same = let arcs = ap (λ (v : Vertex). v.arc) same in omega arith
 names_differ m e f i (inr later) same = let ats = ap (λ (v : Vertex). v.at) same in let below = later.1 in omega arith
 
-flags_fit : (m : Map) (e f : EdgeRef) → IsEarlier e f → FlagsFit (vertex_in m e.arc e.at) (vertex_in m e.arc (e.at + 1)) (vertex_in m f.arc f.at) (vertex_in m f.arc (f.at + 1)) (flags_between m e f)
+flags_fit : (m : Map) (e f : EdgeRef) → IsEarlier e f
+    → FlagsFit (vertex_in m e.arc e.at) (vertex_in m e.arc (e.at + 1)) (vertex_in m f.arc f.at) (vertex_in m f.arc (f.at + 1))
+    (flags_between m e f)
 flags_fit m e f before =
     record {
       a_end = refl;
@@ -201,16 +227,19 @@ flags_fit m e f before =
         λ h. let s = both_same e.arc f.arc (f.at + 1) e.at h in vertex_named m e.arc f.arc e.at (f.at + 1) s.0 (sym s.1),
         λ h. same_both e.arc f.arc (f.at + 1) e.at (ap (λ (v : Vertex). v.arc) h) (sym (ap (λ (v : Vertex). v.at) h)),
       );
-      other_starts = λ same. let none : e.at + 0 ≡ e.at = omega arith in let none' : f.at + 0 ≡ f.at = omega arith in names_differ m e f 0 before (ap (vertex_in m e.arc) none ∙ same ∙ sym (ap (vertex_in m f.arc) none'));
+      other_starts = λ same. let none : e.at + 0 ≡ e.at = omega arith in let none' : f.at + 0 ≡ f.at = omega arith in
+          names_differ m e f 0 before (ap (vertex_in m e.arc) none ∙ same ∙ sym (ap (vertex_in m f.arc) none'));
       other_ends = names_differ m e f 1 before;
     }
 
 abbrev edge_ref : ℕ → ℕ → EdgeRef
 edge_ref n at = record { arc = n; at = at }
 
-lawful_or_held : (held : List ℕ) (m : Map) (e f : EdgeRef) → IsEarlier e f → (EdgesClash m e f → Contains held e.arc × Contains held f.arc) → ClashOnlyIfHeld held (named m e.arc e.at) (named m f.arc f.at)
+lawful_or_held : (held : List ℕ) (m : Map) (e f : EdgeRef) → IsEarlier e f → (EdgesClash m e f → Contains held e.arc × Contains held f.arc)
+    → ClashOnlyIfHeld held (named m e.arc e.at) (named m f.arc f.at)
 lawful_or_held held m e f before clash =
-    let law = clashes_are_unlawful (vertex_in m e.arc e.at) (vertex_in m e.arc (e.at + 1)) (vertex_in m f.arc f.at) (vertex_in m f.arc (f.at + 1)) (flags_between m e f) (flags_fit m e f before) in
+    let law = clashes_are_unlawful (vertex_in m e.arc e.at) (vertex_in m e.arc (e.at + 1)) (vertex_in m f.arc f.at)
+    (vertex_in m f.arc (f.at + 1)) (flags_between m e f) (flags_fit m e f before) in
     elim (held_or_not held e.arc) [
       | inr free ↦ inr (law.0 (λ c. free (clash c).0))
       | inl first ↦
@@ -220,10 +249,12 @@ lawful_or_held held m e f before clash =
           ]
     ]
 
-held_by_clash : (held : List ℕ) (m : Map) (e f : EdgeRef) → IsEarlier e f → ClashOnlyIfHeld held (named m e.arc e.at) (named m f.arc f.at) → EdgesClash m e f → Contains held e.arc × Contains held f.arc
+held_by_clash : (held : List ℕ) (m : Map) (e f : EdgeRef) → IsEarlier e f → ClashOnlyIfHeld held (named m e.arc e.at) (named m f.arc f.at)
+    → EdgesClash m e f → Contains held e.arc × Contains held f.arc
 held_by_clash held m e f before (inl both) clash = both
 held_by_clash held m e f before (inr lawful) clash =
-    let law = clashes_are_unlawful (vertex_in m e.arc e.at) (vertex_in m e.arc (e.at + 1)) (vertex_in m f.arc f.at) (vertex_in m f.arc (f.at + 1)) (flags_between m e f) (flags_fit m e f before) in
+    let law = clashes_are_unlawful (vertex_in m e.arc e.at) (vertex_in m e.arc (e.at + 1)) (vertex_in m f.arc f.at)
+    (vertex_in m f.arc (f.at + 1)) (flags_between m e f) (flags_fit m e f before) in
     absurd (law.1 lawful clash)
 
 -- ---- the law
@@ -231,10 +262,13 @@ held_by_clash held m e f before (inr lawful) clash =
 by_list : (held : List ℕ) (m : Map) → IsMapArranged held m → IsMapArrangedBeside held m
 by_list held m h =
     record {
-      pairs = to_two (ClashOnlyIfHeld held) m 0 m.arcs refl (λ n at k to past inside there order. lawful_or_held held m (edge_ref n at) (edge_ref k to) order (h.clashes (edge_ref n at) (edge_ref k to) inside there order));
+      pairs = to_two (ClashOnlyIfHeld held) m 0 m.arcs refl (λ n at k to past inside there order.
+          lawful_or_held held m (edge_ref n at) (edge_ref k to) order (h.clashes (edge_ref n at) (edge_ref k to) inside there order));
       off = λ p point.
           to_list (λ e. IsOnSegment e.start.place e.end.place p → Contains held e.start.arc) m 0 m.arcs refl
-          (λ n at past inside on. h.points point.0 (edge_ref n at) point.1 inside (subst (λ (q : Place). IsOnSegment (vertex_in m n at).place (vertex_in m n (at + 1)).place q) (sym (found m.points point.0 p point.1 point.2)) on));
+          (λ n at past inside on. h.points point.0 (edge_ref n at) point.1 inside
+          (subst (λ (q : Place). IsOnSegment (vertex_in m n at).place (vertex_in m n (at + 1)).place q)
+          (sym (found m.points point.0 p point.1 point.2)) on));
     }
   where
     found : (qs : List Place) (k : ℕ) (p : Place) → k < length qs → get_or qs k p ≡ p → get_or qs k nowhere ≡ p
@@ -245,9 +279,12 @@ by_list held m h =
 by_names : (held : List ℕ) (m : Map) → IsMapArrangedBeside held m → IsMapArranged held m
 by_names held m h =
     record {
-      clashes = λ e f inside there before clash. held_by_clash held m e f before (from_two (ClashOnlyIfHeld held) m 0 m.arcs refl h.pairs e.arc e.at f.arc f.at (omega arith) inside there before) clash;
+      clashes = λ e f inside there before clash. held_by_clash held m e f before
+          (from_two (ClashOnlyIfHeld held) m 0 m.arcs refl h.pairs e.arc e.at f.arc f.at (omega arith) inside there before) clash;
       points = λ k e below inside on.
-          from_list (λ x. IsOnSegment x.start.place x.end.place (get_or m.points k nowhere) → Contains held x.start.arc) m 0 m.arcs refl (h.off (get_or m.points k nowhere) (Contains-get_or m.points k nowhere below)) e.arc e.at (omega arith) inside on;
+          from_list (λ x. IsOnSegment x.start.place x.end.place (get_or m.points k nowhere)
+          → Contains held x.start.arc) m 0 m.arcs refl (h.off (get_or m.points k nowhere) (Contains-get_or m.points k nowhere below))
+          e.arc e.at (omega arith) inside on;
     }
 
 pub arranged_by_names : ArrangedByNames

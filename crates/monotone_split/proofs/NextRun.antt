@@ -1,5 +1,6 @@
 -- The next chain of an arc by the furthest runs of the two frames.
-use Rattle.std.proofs.Common.{◌≡◌, ℕ, zero, suc, ◌+◌, ◌-◌, ◌<◌, ◌≤◌, List, [], ◌∷◌, length, take, drop, refl, sym, ap, subst, arith, length-drop}
+use Rattle.std.proofs.Common.{◌≡◌, ℕ, zero, suc, ◌+◌, ◌-◌, ◌<◌, ◌≤◌, List, [], ◌∷◌, length, take, drop, refl, sym, ap, subst, arith}
+use Rattle.std.proofs.Common.{length-drop}
 use Rattle.std.proofs.lemmas.List.{take_all}
 use Rattle.grid_exact.specs.Geometry.{Place}
 use Rattle.grid_exact.specs.declared.frame.Frame.{Frame}
@@ -21,10 +22,12 @@ arc_from_drop (p ∷ q ∷ ps) (suc start) inside arc = arc_from_drop (q ∷ ps)
 pub arc_from : (ps : List Place) (start : ℕ) → start + 1 < length ps → IsArc ps → IsArc (take (length ps - start) (drop start ps))
 arc_from ps start inside arc = subst IsArc (sym (whole_rest ps start)) (arc_from_drop ps start (omega arith) arc)
 
-in_rest : (frame : Frame) (ps : List Place) (start n : ℕ) → IsFurthestRun frame (take (length ps - start) (drop start ps)) n → IsFurthestRun frame (drop start ps) n
+in_rest : (frame : Frame) (ps : List Place) (start n : ℕ) → IsFurthestRun frame (take (length ps - start) (drop start ps)) n
+    → IsFurthestRun frame (drop start ps) n
 in_rest frame ps start n far = subst (λ (qs : List Place). IsFurthestRun frame qs n) (whole_rest ps start) far
 
-made_next : (arc : ℕ) (ps : List Place) (start n : ℕ) (frame : Frame) → IsNextRun (drop start ps) frame n → IsNextChainRef arc ps start (record { arc = arc; «from» = start; to = start + n; frame = frame })
+made_next : (arc : ℕ) (ps : List Place) (start n : ℕ) (frame : Frame) → IsNextRun (drop start ps) frame n
+    → IsNextChainRef arc ps start (record { arc = arc; «from» = start; to = start + n; frame = frame })
 made_next arc ps start n frame run =
     let count : start + n - start ≡ n = omega arith in
     record {
@@ -34,8 +37,15 @@ made_next arc ps start n frame run =
       run = subst (λ (k : ℕ). IsNextRun (drop start ps) frame k) (sym count) run;
     }
 
-pub plain_next : (arc : ℕ) (ps : List Place) (start plain turned : ℕ) → IsFurthestRun Plain (take (length ps - start) (drop start ps)) plain → IsFurthestRun Turned (take (length ps - start) (drop start ps)) turned → turned ≤ plain → IsNextChainRef arc ps start (record { arc = arc; «from» = start; to = start + plain; frame = Plain })
-plain_next arc ps start plain turned by_x by_y further = made_next arc ps start plain Plain (PlainReaches turned refl (in_rest Plain ps start plain by_x) (in_rest Turned ps start turned by_y) further)
+pub plain_next : (arc : ℕ) (ps : List Place) (start plain turned : ℕ) → IsFurthestRun Plain (take (length ps - start) (drop start ps)) plain
+    → IsFurthestRun Turned (take (length ps - start) (drop start ps)) turned → turned ≤ plain
+    → IsNextChainRef arc ps start (record { arc = arc; «from» = start; to = start + plain; frame = Plain })
+plain_next arc ps start plain turned by_x by_y further = made_next arc ps start plain Plain
+    (PlainReaches turned refl (in_rest Plain ps start plain by_x) (in_rest Turned ps start turned by_y) further)
 
-pub turned_next : (arc : ℕ) (ps : List Place) (start plain turned : ℕ) → IsFurthestRun Plain (take (length ps - start) (drop start ps)) plain → IsFurthestRun Turned (take (length ps - start) (drop start ps)) turned → plain < turned → IsNextChainRef arc ps start (record { arc = arc; «from» = start; to = start + turned; frame = Turned })
-turned_next arc ps start plain turned by_x by_y further = made_next arc ps start turned Turned (TurnedReaches plain refl (in_rest Plain ps start plain by_x) (in_rest Turned ps start turned by_y) further)
+pub turned_next : (arc : ℕ) (ps : List Place) (start plain turned : ℕ)
+    → IsFurthestRun Plain (take (length ps - start) (drop start ps)) plain
+    → IsFurthestRun Turned (take (length ps - start) (drop start ps)) turned → plain < turned
+    → IsNextChainRef arc ps start (record { arc = arc; «from» = start; to = start + turned; frame = Turned })
+turned_next arc ps start plain turned by_x by_y further = made_next arc ps start turned Turned
+    (TurnedReaches plain refl (in_rest Plain ps start plain by_x) (in_rest Turned ps start turned by_y) further)

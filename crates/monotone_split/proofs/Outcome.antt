@@ -7,7 +7,8 @@ use Rattle.arc_map.specs.Vertices.{Vertex, places}
 use Rattle.arc_map.specs.Chains.{Chain, chain_at, AreChains, IsArrangedBeside, IsWithinBound, thinned}
 use Rattle.arc_map.specs.Edges.{is_arc_crossed_oddly}
 use Rattle.arc_map.specs.Paths.{vertices_at, Step, AreSteps}
-use Rattle.arc_map.specs.Arcs.{vertex, vertices_from, AreKept, IsListCutInto, AreChainsOf, joined_rests, joined_arc, arcs_now, chains_past_arc, map_now, is_list_crossed_oddly, is_inside_of}
+use Rattle.arc_map.specs.Arcs.{vertex, vertices_from, AreKept, IsListCutInto, AreChainsOf, joined_rests, joined_arc, arcs_now}
+use Rattle.arc_map.specs.Arcs.{chains_past_arc, map_now, is_list_crossed_oddly, is_inside_of}
 use Rattle.monotone_split.specs.Laws.{StepsKeepMap}
 use Rattle.monotone_split.proofs.Cuts.{chains_cut_map, parts_of_arc, parts_of_arcs}
 use Rattle.monotone_split.proofs.Numbers.{path_in, path_by_numbers_keeps_map}
@@ -42,7 +43,8 @@ arcs_as_read arc (ps ∷ pss) ks cut =
     let firsts = (parts_of_arc arc ps cut.0 cut.3).arcs in
     let seconds = (parts_of_arcs (suc arc) pss cut.1 cut.4).arcs in
     ap (arcs_now arc (ps ∷ pss)) cut.2
-    ∙ ap (λ (xs : List Chain). joined_arc ps xs ∷ arcs_now (suc arc) pss (chains_past_arc arc (cut.0 ++ cut.1))) (taken arc cut.0 cut.1 firsts seconds)
+    ∙ ap (λ (xs : List Chain). joined_arc ps xs ∷ arcs_now (suc arc) pss (chains_past_arc arc (cut.0 ++ cut.1)))
+    (taken arc cut.0 cut.1 firsts seconds)
     ∙ ap (λ (xs : List Chain). joined_arc ps cut.0 ∷ arcs_now (suc arc) pss xs) (left_over arc cut.0 cut.1 firsts seconds)
     ∙ ap (λ (qs : List Place). qs ∷ arcs_now (suc arc) pss cut.1) (arc_as_read arc ps cut.0 cut.3)
     ∙ ap (λ (qss : List (List Place)). ps ∷ qss) (arcs_as_read (suc arc) pss cut.1 cut.4)
@@ -55,24 +57,40 @@ record StepsKept (held : List ℕ) (points : List Place) (before chains after : 
   arranged : IsArrangedBeside held after points
   parity : (p : Place) (arc : ℕ) → Contains points p → is_arc_crossed_oddly p arc after ≡ is_arc_crossed_oddly p arc chains
 
-steps_kept : (wx wy bound : ℤ) (held : List ℕ) (points : List Place) (before chains : List Chain) (steps : List Step) (after : List Chain) → AreChains chains → AreKept before chains → IsArrangedBeside held chains points → AreSteps (IsWithinBound wx wy bound) held points chains steps after → StepsKept held points before chains after
+steps_kept : (wx wy bound : ℤ) (held : List ℕ) (points : List Place) (before chains : List Chain) (steps : List Step) (after : List Chain)
+    → AreChains chains → AreKept before chains → IsArrangedBeside held chains points
+    → AreSteps (IsWithinBound wx wy bound) held points chains steps after → StepsKept held points before chains after
 steps_kept wx wy bound held points before chains [] after are kept arranged steps =
-    subst (λ (xs : List Chain). StepsKept held points before chains xs) steps (record { are_chains = are; kept = kept; arranged = arranged; parity = λ p arc point. refl })
+    subst (λ (xs : List Chain). StepsKept held points before chains xs) steps
+    (record { are_chains = are; kept = kept; arranged = arranged; parity = λ p arc point. refl })
 steps_kept wx wy bound held points before chains (s ∷ ss) after are kept arranged steps =
     let keeps = path_by_numbers_keeps_map wx wy bound chains points s.chain s.numbers steps.0 are (arranged s.chain steps.1) steps.2 in
-    let rest = steps_kept wx wy bound held points before (thinned chains s.chain (vertices_at (chain_at chains s.chain) s.numbers)) ss after keeps.chains_stay (thinned_are_kept.1 wx wy bound before chains points s.chain (vertices_at (chain_at chains s.chain) s.numbers) kept (path_in wx wy bound chains points s.chain s.numbers steps.2)) (keeps.arranged held arranged) steps.3 in
-    record { are_chains = rest.are_chains; kept = rest.kept; arranged = rest.arranged; parity = λ p arc point. rest.parity p arc point ∙ keeps.arc_parity p arc point }
+    let rest = steps_kept wx wy bound held points before (thinned chains s.chain (vertices_at (chain_at chains s.chain) s.numbers)) ss after
+    keeps.chains_stay (thinned_are_kept.1 wx wy bound before chains points s.chain (vertices_at (chain_at chains s.chain) s.numbers)
+    kept (path_in wx wy bound chains points s.chain s.numbers steps.2)) (keeps.arranged held arranged) steps.3 in
+    record {
+      are_chains = rest.are_chains;
+      kept = rest.kept;
+      arranged = rest.arranged;
+      parity = λ p arc point. rest.parity p arc point
+          ∙ keeps.arc_parity p arc point;
+    }
 
-pub inside_alike : (p : Place) (xs ys : List (List Place)) → ((arc : ℕ) → is_list_crossed_oddly p (get_or xs arc []) ≡ is_list_crossed_oddly p (get_or ys arc [])) → (numbers : List ℕ) → is_inside_of p xs numbers ≡ is_inside_of p ys numbers
+pub inside_alike : (p : Place) (xs ys : List (List Place)) → ((arc : ℕ)
+    → is_list_crossed_oddly p (get_or xs arc []) ≡ is_list_crossed_oddly p (get_or ys arc [])) → (numbers : List ℕ)
+    → is_inside_of p xs numbers ≡ is_inside_of p ys numbers
 inside_alike p xs ys same [] = refl
 inside_alike p xs ys same (n ∷ ns) =
-    ap (λ (t : Bool). differ t (is_inside_of p xs ns)) (same n) ∙ ap (λ (t : Bool). differ (is_list_crossed_oddly p (get_or ys n [])) t) (inside_alike p xs ys same ns)
+    ap (λ (t : Bool). differ t (is_inside_of p xs ns)) (same n)
+    ∙ ap (λ (t : Bool). differ (is_list_crossed_oddly p (get_or ys n [])) t) (inside_alike p xs ys same ns)
 
 pub steps_keep_map : StepsKeepMap
 steps_keep_map wx wy bound held m chains steps after cut was run =
     let cuts = chains_cut_map m chains cut in
-    let end = steps_kept wx wy bound held m.points chains chains steps after cuts.are_chains (thinned_are_kept.0 chains) ((cuts.arranged held).0 was) run in
-    let same : (p : Place) (arc : ℕ) → Contains m.points p → is_list_crossed_oddly p (get_or (map_now m after).arcs arc []) ≡ is_list_crossed_oddly p (get_or m.arcs arc []) = (λ p arc point.
+    let end = steps_kept wx wy bound held m.points chains chains steps after cuts.are_chains (thinned_are_kept.0 chains)
+    ((cuts.arranged held).0 was) run in
+    let same : (p : Place) (arc : ℕ) → Contains m.points p → is_list_crossed_oddly p (get_or (map_now m after).arcs arc [])
+    ≡ is_list_crossed_oddly p (get_or m.arcs arc []) = (λ p arc point.
     parity_of_arcs m chains after cut end.kept p arc
     ∙ end.parity p arc point
     ∙ sym (parity_of_arcs m chains chains cut (thinned_are_kept.0 chains) p arc)

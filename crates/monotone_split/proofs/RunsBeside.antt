@@ -14,7 +14,8 @@ use Rattle.monotone_split.proofs.WalkParts.{first_part, later_part, first_skippe
 use Rattle.monotone_split.proofs.Maps.{other_apart}
 
 -- what holds of each edge of a walk holds of each edge behind one of its vertices
-from_vertex : (P : Vertex → Vertex → Type 0) (first : Vertex) (all before : List Vertex) (v : Vertex) (us : List Vertex) → first ∷ all ≡ before ++ (v ∷ us) → EachEdge P first all → EachEdge P v us
+from_vertex : (P : Vertex → Vertex → Type 0) (first : Vertex) (all before : List Vertex) (v : Vertex) (us : List Vertex)
+    → first ∷ all ≡ before ++ (v ∷ us) → EachEdge P first all → EachEdge P v us
 from_vertex P first all [] v us is h =
     let starts : first ≡ v = ap (λ (xs : List Vertex). get_or xs 0 first) is in
     let goes : all ≡ us = ap (λ (xs : List Vertex). drop 1 xs) is in
@@ -23,16 +24,25 @@ from_vertex P first all (b ∷ bs) v us is h =
     let goes : all ≡ bs ++ (v ∷ us) = ap (λ (xs : List Vertex). drop 1 xs) is in
     later_part P first bs v us (subst (λ (xs : List Vertex). EachEdge P first xs) goes h)
 
-run_of : (P : Vertex → Vertex → Type 0) (first : Vertex) (all before : List Vertex) (v : Vertex) (skipped : List Vertex) (w : Vertex) (rest : List Vertex) → first ∷ all ≡ before ++ (v ∷ (skipped ++ (w ∷ rest))) → EachEdge P first all → EachEdge P v (skipped ++ w ∷ [])
-run_of P first all before v skipped w rest is h = first_part P v skipped w rest (from_vertex P first all before v (skipped ++ (w ∷ rest)) is h)
+run_of : (P : Vertex → Vertex → Type 0) (first : Vertex) (all before : List Vertex) (v : Vertex) (skipped : List Vertex) (w : Vertex)
+    (rest : List Vertex) → first ∷ all ≡ before ++ (v ∷ (skipped ++ (w ∷ rest))) → EachEdge P first all → EachEdge P v (skipped ++ w ∷ [])
+run_of P first all before v skipped w rest is h = first_part P v skipped w rest
+    (from_vertex P first all before v (skipped ++ (w ∷ rest)) is h)
 
-run_one_way : (frame : Frame) (first : Vertex) (all before : List Vertex) (v : Vertex) (skipped : List Vertex) (w : Vertex) (rest : List Vertex) → first ∷ all ≡ before ++ (v ∷ (skipped ++ (w ∷ rest))) → IsMonotone frame first.place (places all) → IsMonotone frame v.place (places (skipped ++ w ∷ []))
+run_one_way : (frame : Frame) (first : Vertex) (all before : List Vertex) (v : Vertex) (skipped : List Vertex) (w : Vertex) (rest :
+    List Vertex) → first ∷ all ≡ before ++ (v ∷ (skipped ++ (w ∷ rest))) → IsMonotone frame first.place (places all)
+    → IsMonotone frame v.place (places (skipped ++ w ∷ []))
 run_one_way frame first all before v skipped w rest is (Increasing h) =
-    Increasing (to_places (λ a b. IsBeforeIn frame a b) v (skipped ++ w ∷ []) (run_of (λ a b. IsBeforeIn frame a.place b.place) first all before v skipped w rest is (from_places (λ a b. IsBeforeIn frame a b) first all h)))
+    Increasing (to_places (λ a b. IsBeforeIn frame a b) v (skipped ++ w ∷ [])
+    (run_of (λ a b. IsBeforeIn frame a.place b.place) first all before v skipped w rest is
+    (from_places (λ a b. IsBeforeIn frame a b) first all h)))
 run_one_way frame first all before v skipped w rest is (Decreasing h) =
-    Decreasing (to_places (λ a b. IsBeforeIn frame b a) v (skipped ++ w ∷ []) (run_of (λ a b. IsBeforeIn frame b.place a.place) first all before v skipped w rest is (from_places (λ a b. IsBeforeIn frame b a) first all h)))
+    Decreasing (to_places (λ a b. IsBeforeIn frame b a) v (skipped ++ w ∷ [])
+    (run_of (λ a b. IsBeforeIn frame b.place a.place) first all before v skipped w rest is
+    (from_places (λ a b. IsBeforeIn frame b a) first all h)))
 
-run_inside : (P : Vertex → Type 0) (first : Vertex) (all before : List Vertex) (v : Vertex) (skipped : List Vertex) (w : Vertex) (rest : List Vertex) → first ∷ all ≡ before ++ (v ∷ (skipped ++ (w ∷ rest))) → EachButLast P all → EachOf P skipped
+run_inside : (P : Vertex → Type 0) (first : Vertex) (all before : List Vertex) (v : Vertex) (skipped : List Vertex) (w : Vertex) (rest :
+    List Vertex) → first ∷ all ≡ before ++ (v ∷ (skipped ++ (w ∷ rest))) → EachButLast P all → EachOf P skipped
 run_inside P first all [] v skipped w rest is h =
     let goes : all ≡ skipped ++ (w ∷ rest) = ap (λ (xs : List Vertex). drop 1 xs) is in
     first_skipped P skipped w rest (subst (EachButLast P) goes h)

@@ -26,7 +26,10 @@ pub record IsBesideRun (frame : Frame) (chains : List Chain) (k : ℕ) (v : Vert
 
 -- Each run of a clear chain, and each edge of another chain: the edge is beside the run.
 abbrev pub ClearRunsAreBeside : Type 0
-ClearRunsAreBeside = (chains : List Chain) (points : List Place) (k : ℕ) (before : List Vertex) (v : Vertex) (skipped : List Vertex) (w : Vertex) (rest : List Vertex) (c d : Vertex) → AreChains chains → IsClearIn chains points k → vertices_of (chain_at chains k) ≡ before ++ (v ∷ (skipped ++ (w ∷ rest))) → IsOtherEdge chains k c d → IsBesideRun (chain_at chains k).frame chains k v skipped w c d
+ClearRunsAreBeside = (chains : List Chain) (points : List Place) (k : ℕ) (before : List Vertex) (v : Vertex) (skipped : List Vertex) (w :
+    Vertex) (rest : List Vertex) (c d : Vertex) → AreChains chains → IsClearIn chains points k
+    → vertices_of (chain_at chains k) ≡ before ++ (v ∷ (skipped ++ (w ∷ rest))) → IsOtherEdge chains k c d
+    → IsBesideRun (chain_at chains k).frame chains k v skipped w c d
 
 -- the edge cd does not change sides where the run from v to w becomes the segment vw: the consistency part at both its ends
 pub record StaysBeside (v : Vertex) (skipped : List Vertex) (w c d : Vertex) : Type 0 where
@@ -43,16 +46,19 @@ pub data ShareEnd (a b c d : Place) : Type 0 where
 -- ab and cd run from the first end to the second in the order of the frame, and cd is strictly above ab at both ends of the span
 -- that they share
 abbrev pub IsOver : Frame → Place → Place → Place → Place → Type 0
-IsOver frame a b c d = (pos 0 <ℤ start_gap (placed_in frame a) (placed_in frame b) (placed_in frame c) (placed_in frame d)) × (pos 0 <ℤ end_gap (placed_in frame a) (placed_in frame b) (placed_in frame c) (placed_in frame d))
+IsOver frame a b c d = (pos 0 <ℤ start_gap (placed_in frame a) (placed_in frame b) (placed_in frame c) (placed_in frame d))
+    × (pos 0 <ℤ end_gap (placed_in frame a) (placed_in frame b) (placed_in frame c) (placed_in frame d))
 
 -- and strictly below it
 abbrev pub IsUnder : Frame → Place → Place → Place → Place → Type 0
-IsUnder frame a b c d = (start_gap (placed_in frame a) (placed_in frame b) (placed_in frame c) (placed_in frame d) <ℤ pos 0) × (end_gap (placed_in frame a) (placed_in frame b) (placed_in frame c) (placed_in frame d) <ℤ pos 0)
+IsUnder frame a b c d = (start_gap (placed_in frame a) (placed_in frame b) (placed_in frame c) (placed_in frame d) <ℤ pos 0)
+    × (end_gap (placed_in frame a) (placed_in frame b) (placed_in frame c) (placed_in frame d) <ℤ pos 0)
 
 -- the edge cd, from p to q in the order of the frame, has the relation to each edge of the run, from a to b in that order, whose
 -- span meets its own
 abbrev pub HasToEach : (Place → Place → Place → Place → Type 0) → Frame → Place → List Place → Place → Place → Type 0
-HasToEach R frame v ws c d = (a b p q : Place) → IsEdgeOf v ws a b ⊎ IsEdgeOf v ws b a → SameEnds c d p q → SpansMeet frame a b p q → R a b p q
+HasToEach R frame v ws c d = (a b p q : Place) → IsEdgeOf v ws a b ⊎ IsEdgeOf v ws b a → SameEnds c d p q → SpansMeet frame a b p q
+    → R a b p q
 
 -- the edge cd keeps to one side of the run over all that their spans share
 abbrev pub KeepsSide : Frame → Place → List Place → Place → Place → Type 0
@@ -60,7 +66,9 @@ KeepsSide frame v ws c d = HasToEach (IsOver frame) frame v ws c d ⊎ HasToEach
 
 -- An edge beside a run that shares no end with it, as its ends go, keeps to one side of the run.
 abbrev pub EdgeKeepsSide : Type 0
-EdgeKeepsSide = (frame : Frame) (chains : List Chain) (k : ℕ) (v : Vertex) (skipped : List Vertex) (w c d : Vertex) → IsBesideRun frame chains k v skipped w c d → ¬ (ShareEnd v.place w.place c.place d.place) → KeepsSide frame v.place (places (skipped ++ w ∷ [])) c.place d.place
+EdgeKeepsSide = (frame : Frame) (chains : List Chain) (k : ℕ) (v : Vertex) (skipped : List Vertex) (w c d : Vertex)
+    → IsBesideRun frame chains k v skipped w c d → ¬ (ShareEnd v.place w.place c.place d.place)
+    → KeepsSide frame v.place (places (skipped ++ w ∷ [])) c.place d.place
 
 -- the edges ab and cd have the same strict order at both ends of the span that they share, so they have no common point
 pub record AreStrictlyOrdered (frame : Frame) (a b c d : Place) : Type 0 where
@@ -69,7 +77,9 @@ pub record AreStrictlyOrdered (frame : Frame) (a b c d : Place) : Type 0 where
 
 -- An edge beside a run that stays beside the shortcut and shares no end with it has no common point with the shortcut.
 abbrev pub EdgeMissesShortcut : Type 0
-EdgeMissesShortcut = (frame : Frame) (chains : List Chain) (k : ℕ) (v : Vertex) (skipped : List Vertex) (w c d : Vertex) → IsBesideRun frame chains k v skipped w c d → StaysBeside v skipped w c d → ¬ (ShareEnd v.place w.place c.place d.place) → AreStrictlyOrdered frame v.place w.place c.place d.place
+EdgeMissesShortcut = (frame : Frame) (chains : List Chain) (k : ℕ) (v : Vertex) (skipped : List Vertex) (w c d : Vertex)
+    → IsBesideRun frame chains k v skipped w c d → StaysBeside v skipped w c d → ¬ (ShareEnd v.place w.place c.place d.place)
+    → AreStrictlyOrdered frame v.place w.place c.place d.place
 
 -- the edge cd has one point in common with the shortcut vw, and there the two meet lawfully
 pub record MeetsOnce (v w c d : Vertex) : Type 0 where
@@ -79,4 +89,6 @@ pub record MeetsOnce (v w c d : Vertex) : Type 0 where
 -- An edge beside a run that stays beside the shortcut, shares an end with it, and is no second edge between its ends: it has no
 -- second common point with the shortcut.
 abbrev pub EdgeMeetsShortcutOnce : Type 0
-EdgeMeetsShortcutOnce = (frame : Frame) (chains : List Chain) (k : ℕ) (v : Vertex) (skipped : List Vertex) (w c d : Vertex) → IsBesideRun frame chains k v skipped w c d → StaysBeside v skipped w c d → ShareEnd v.place w.place c.place d.place → ¬ (SameEnds v.place w.place c.place d.place) → MeetsOnce v w c d
+EdgeMeetsShortcutOnce = (frame : Frame) (chains : List Chain) (k : ℕ) (v : Vertex) (skipped : List Vertex) (w c d : Vertex)
+    → IsBesideRun frame chains k v skipped w c d → StaysBeside v skipped w c d → ShareEnd v.place w.place c.place d.place
+    → ¬ (SameEnds v.place w.place c.place d.place) → MeetsOnce v w c d

@@ -1,15 +1,17 @@
-//! The chains of a map: each arc is cut into runs that go strictly one way in one of the two orders of points.
+//! The chains of a map: each arc is cut into runs that go strictly one way in one of the two orders
+//! of points.
 ghost use Rattle.std.specs.Prelude.{◌+◌, ◌<◌, ◌≤◌, ◌^◌, IfOk, OnOk, length};
 ghost use Rattle.arc_map.specs.Map.{IsArc, IsMap};
 ghost use Rattle.arc_map.specs.Work.{AreChainsIn};
-ghost use Rattle.monotone_split.specs.Cut.{IsFurthestRun, IsNextChainRef, AddsChainsOf, AreChainRefs};
+ghost use Rattle.monotone_split.specs.Cut.{IsFurthestRun, IsNextChainRef, AddsChainsOf};
+ghost use Rattle.monotone_split.specs.Cut.{AreChainRefs};
 
 use arc_map::{ArcMap, ChainRef, NoMemory};
 use grid_exact::{Frame, MAX_CHAIN_EDGES, Point, order};
 use std::alloc::{AllocError, Global};
 
-// How many edges from the first position on run strictly one way in the order of the frame, at most as many as a
-// chain may have.
+// How many edges from the first position on run strictly one way in the order of the frame, at most
+// as many as a chain may have.
 fn furthest_run(frame: Frame, positions: &[Point]) -> usize
     requires edge { 1 < length positions.now }
     requires arc { IsArc positions.now }
@@ -25,7 +27,8 @@ fn furthest_run(frame: Frame, positions: &[Point]) -> usize
     limit
 }
 
-// The chain that is cut off arc number `number`, which has these positions, from the position `from` on.
+// The chain that is cut off arc number `number`, which has these positions, from the position
+// `from` on.
 fn next_chain(number: u32, arc: &[Point], from: u32) -> ChainRef
     requires edge { from + 1 < length arc.now }
     requires arc { IsArc arc.now }
@@ -67,10 +70,10 @@ fn cut_arc(map: &ArcMap, number: u32, chains: &mut Vec<ChainRef>) -> Result<(), 
     Ok(())
 }
 
-/// The chains of the map, in order of arc, then of position. Each arc is cut from its first position on, each time
-/// where the furthest run ends that goes strictly one way by x, then y, or by y, then x, and has at most 1,023 edges.
-/// The further of the two runs gives the frame, at a tie the plain one. An arc of one position has no chain. The only
-/// error is want of memory.
+/// The chains of the map, in order of arc, then of position. Each arc is cut from its first
+/// position on, each time where the furthest run ends that goes strictly one way by x, then y, or
+/// by y, then x, and has at most 1,023 edges. The further of the two runs gives the frame, at a tie
+/// the plain one. An arc of one position has no chain. The only error is want of memory.
 pub fn split(alloc: Global, map: &ArcMap) -> Result<Vec<ChainRef>, NoMemory>
     ensures chains { IfOk result (λ refs. AreChainsIn map.now refs.items) }
     ensures bounds { IfOk result (λ refs. AreChainRefs map.now refs.items) }

@@ -56,7 +56,8 @@ fn number(word: Option<&str>) -> Result<u64, CasesError> {
     }
 }
 
-/// The verdicts on the certificate of this text for the map of this text: by the index, and by plain tests.
+/// The verdicts on the certificate of this text for the map of this text: by the index, and by
+/// plain tests.
 pub fn verdicts(
     alloc: Global,
     map: &str,

@@ -37,8 +37,8 @@ fn first_bad_step(
     None
 }
 
-// The first pair of the chain's vertices, by the one that is numbered lower, then by the other, that is allowed though the
-// layers fall by more than 1 over it.
+// The first pair of the chain's vertices, by the one that is numbered lower, then by the other,
+// that is allowed though the layers fall by more than 1 over it.
 fn first_fall(
     work: &WorkMap,
     k: u32,
@@ -100,7 +100,8 @@ fn falls(from: u32, to: u32) -> bool
 
 // Whether the kept vertices rise from the first vertex of a chain of so many edges to its last.
 fn is_kept(kept: &[u32], edges: usize) -> bool
-    ensures { (chain : Chain) → length chain.rest ≡ edges → IsTrue result ↔ AreKeptIn chain kept.now }
+    ensures { (chain : Chain) → length chain.rest ≡ edges → IsTrue result
+        ↔ AreKeptIn chain kept.now }
 {
     match (kept.first(), kept.last()) {
         (Some(0), Some(last)) if *last as usize == edges => {}
@@ -114,7 +115,8 @@ fn is_kept(kept: &[u32], edges: usize) -> bool
     true
 }
 
-// Whether the layers are one for each vertex of a chain of so many edges, and lead from the number of steps to 0.
+// Whether the layers are one for each vertex of a chain of so many edges, and lead from the number
+// of steps to 0.
 fn end_well(edges: usize, kept: &[u32], layers: &[u32]) -> bool
     requires edges { edges < 1024 }
     requires kept { 0 < length kept.now }
@@ -123,8 +125,8 @@ fn end_well(edges: usize, kept: &[u32], layers: &[u32]) -> bool
     layers.len() == edges + 1 && layers[edges] == 0 && layers[0] as usize + 1 == kept.len()
 }
 
-/// Why the record, which is that of the entry number `entry`, is refused for chain number `k` of the map at work; None where
-/// it is accepted. All pairs are looked at over the whole map.
+/// Why the record, which is that of the entry number `entry`, is refused for chain number `k` of
+/// the map at work; None where it is accepted. All pairs are looked at over the whole map.
 pub fn refusal(
     work: &WorkMap,
     k: u32,
@@ -136,7 +138,8 @@ pub fn refusal(
     requires chain { k < length work.now.chains }
     requires on_grid { All (StaysOnGrid weights) (chain_places (chain_at work.now.chains k)) }
     ensures { MatchOption result
-        (IsAccepted (pairs_of work.now k weights bound) (chain_at work.now.chains k) (record_of said.now))
+        (IsAccepted (pairs_of work.now k weights bound) (chain_at work.now.chains k)
+        (record_of said.now))
         (λ reason. IsFault (pairs_of work.now k weights bound) (chain_at work.now.chains k) entry
         (record_of said.now) (No reason)) }
 {

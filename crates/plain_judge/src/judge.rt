@@ -18,7 +18,8 @@ use grid_exact::{Bound, Weights};
 use monotone_split::split;
 use std::alloc::{AllocError, Global};
 
-// A chain that is judged: its number in the map, its arc and the number of its first position there.
+// A chain that is judged: its number in the map, its arc and the number of its first position
+// there.
 #[derive(Clone, Copy)]
 struct Spot {
     chain: u32,
@@ -51,8 +52,8 @@ fn free_spots(alloc: Global, work: &WorkMap, held: &[u32]) -> Result<Vec<Spot>, 
     Ok(spots)
 }
 
-// Where the arcs that the certificate names first differ from the held arcs of the map, or one list ends; None where they are
-// equal.
+// Where the arcs that the certificate names first differ from the held arcs of the map, or one list
+// ends; None where they are equal.
 fn held_difference(said: &ArcList, held: &[u32]) -> Option<u32> {
     for k in 0..said.count() {
         match held.get(k as usize) {
@@ -120,7 +121,8 @@ pub fn verdict(
     Ok(Verdict::Yes)
 }
 
-// Why the entry is refused for chain number `k`; None where it is accepted, and then the chain is thinned to its kept vertices.
+// Why the entry is refused for chain number `k`; None where it is accepted, and then the chain is
+// thinned to its kept vertices.
 fn judge_entry(
     work: &mut WorkMap,
     k: u32,
@@ -152,9 +154,12 @@ fn thinned_or_refused(
 ) -> Option<Reason>
     requires chain { k < length work.old.chains }
     requires on_grid { All (StaysOnGrid weights) (chain_places (chain_at work.old.chains k)) }
-    ensures refused { IfSome result (λ reason. IsFault (pairs_of work.old k weights bound) (chain_at work.old.chains k) entry
+    ensures refused { IfSome result (λ reason.
+        IsFault (pairs_of work.old k weights bound) (chain_at work.old.chains k) entry
         (record_of said.now) (No reason)) }
-    ensures accepted { IsNone result → IsAccepted (pairs_of work.old k weights bound) (chain_at work.old.chains k) (record_of said.now) }
+    ensures accepted { IsNone result
+        → IsAccepted (pairs_of work.old k weights bound) (chain_at work.old.chains k)
+        (record_of said.now) }
     ensures thinned { IsNone result → work.new ≡ thinned_work work.old k said.now.kept.now }
     ensures same { IfSome result (λ _. work.new ≡ work.old) }
 {

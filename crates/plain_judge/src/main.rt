@@ -1,5 +1,6 @@
-//! Judges the certificates of `cases.txt` twice: by `cert_checker::judge`, which asks an index for what stands near, and by the
-//! definition's plain tests over the whole map. Prints how many got which verdict, and each on which the two differ.
+//! Judges the certificates of `cases.txt` twice: by `cert_checker::judge`, which asks an index for
+//! what stands near, and by the definition's plain tests over the whole map. Prints how many got
+//! which verdict, and each on which the two differ.
 #![tactic(auto)]
 
 mod cases;
@@ -15,8 +16,9 @@ use std::process::ExitCode;
 use std::rt::Files;
 use tally::Tally;
 
-// The file of the cases. A line is a keyword, a space, and a text: `map` a topology, `demand` what is demanded of the
-// certificates that follow (the version, the bound and the two weights), `certificate` a certificate for the map above.
+// The file of the cases. A line is a keyword, a space, and a text: `map` a topology, `demand` what
+// is demanded of the certificates that follow (the version, the bound and the two weights),
+// `certificate` a certificate for the map above.
 const CASES: &str = "cases.txt";
 
 // Reads the lines one by one, and judges each certificate twice.

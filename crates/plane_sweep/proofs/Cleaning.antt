@@ -18,9 +18,11 @@ pub no_clash : (m : Map) (spans : List Span) → AreSpansOf m spans → AllMeetL
 no_clash m spans are lawful e f first second before clash =
     let a = are.all e first in
     let b = are.all f second in
-    let early : IsEarlier a.span.edge b.span.edge = subst (λ x. IsEarlier x b.span.edge) (sym a.is) (subst (λ x. IsEarlier e x) (sym b.is) before) in
+    let early : IsEarlier a.span.edge b.span.edge = subst (λ x. IsEarlier x b.span.edge) (sym a.is)
+    (subst (λ x. IsEarlier e x) (sym b.is) before) in
     let apart : ¬ (a.span.edge ≡ b.span.edge) = λ same. not_before_itself b.span.edge (subst (λ x. IsEarlier x b.span.edge) same early) in
-    lawful_is_no_clash m a.span b.span (All-contains (IsSpanOf m) spans a.span are.only a.held) (All-contains (IsSpanOf m) spans b.span are.only b.held) early
+    lawful_is_no_clash m a.span b.span (All-contains (IsSpanOf m) spans a.span are.only a.held)
+    (All-contains (IsSpanOf m) spans b.span are.only b.held) early
     (lawful a.span b.span a.held b.held apart)
     (subst (λ x. EdgesClash m x b.span.edge) (sym a.is) (subst (λ x. EdgesClash m e x) (sym b.is) clash))
 

@@ -5,7 +5,8 @@ use Rattle.grid_exact.specs.Geometry.{Place, area_of, IsBefore}
 use Rattle.grid_exact.specs.Geometry.IsBefore.{Left, Below}
 use Rattle.grid_exact.specs.Spans.{IsUpTo}
 use Rattle.grid_exact.proofs.WholeLaws.{sums}
-use Rattle.grid_exact.proofs.Signs.{sign_of, times_nonnegative, times_positive, times_negative, nonnegative_times_nonpositive, positive_from_times, negative_from_times, square_nonnegative}
+use Rattle.grid_exact.proofs.Signs.{sign_of, times_nonnegative, times_positive, times_negative, nonnegative_times_nonpositive}
+use Rattle.grid_exact.proofs.Signs.{positive_from_times, negative_from_times, square_nonnegative}
 use Rattle.grid_exact.proofs.Signs.SignOf.{Negative, Zero, Positive}
 use Rattle.grid_exact.proofs.Polynomial.{Polynomial, Whole, ◌⊕◌, ◌⊖◌, ◌⊗◌, ◌≈◌, Variable, by_identity, identity_2, identity_3, identity_4}
 use Rattle.grid_exact.proofs.Spots.{Spot, spot, numbers_of, area_in, turn_in}
@@ -35,7 +36,8 @@ at_most_square z =
     elim (sign_of z) [
       | Negative h ↦ omega (arith, sums)
       | Zero h ↦ omega (arith, sums)
-      | Positive h ↦ let p : pos 0 ≤ℤ (z *ℤ (z -ℤ pos 1)) = times_nonnegative z (z -ℤ pos 1) (omega (arith, sums)) (omega (arith, sums)) in omega (arith, sums, e)
+      | Positive h ↦ let p : pos 0 ≤ℤ (z *ℤ (z -ℤ pos 1)) = times_nonnegative z (z -ℤ pos 1) (omega (arith, sums)) (omega (arith, sums)) in
+          omega (arith, sums, e)
     ]
 
 abbrev pub wide_for : ℤ → ℤ → ℤ → ℤ → ℤ → ℤ → ℤ
@@ -93,18 +95,23 @@ gap_moves k a b c d v w =
     let p = spot 0 in let q = spot 1 in let r = spot 2 in let o = spot 3 in let s = spot 4 in let t = spot 5 in
     let n = Variable 12 in
     by_identity (numbers_of (a ∷ b ∷ c ∷ d ∷ v ∷ w ∷ []) (k ∷ []))
-    (area_in p q t ⊗ way_in n r o ⊖ area_in r o t ⊗ way_in n p q ≈ (area_in p q s ⊗ way_in n r o ⊖ area_in r o s ⊗ way_in n p q) ⊕ turn_in p q r o ⊗ way_in n s t) refl
+    (area_in p q t ⊗ way_in n r o ⊖ area_in r o t ⊗ way_in n p q ≈ (area_in p q s ⊗ way_in n r o ⊖ area_in r o s ⊗ way_in n p q) ⊕ turn_in p
+    q r o ⊗ way_in n s t) refl
 
-stays : (t g0 g1 g2 d1 d2 : ℤ) → g1 ≡ g0 +ℤ t *ℤ d1 → g2 ≡ g1 +ℤ t *ℤ d2 → pos 0 ≤ℤ g0 → pos 0 ≤ℤ g2 → pos 0 ≤ℤ d1 → pos 0 ≤ℤ d2 → pos 0 ≤ℤ g1
+stays : (t g0 g1 g2 d1 d2 : ℤ) → g1 ≡ g0 +ℤ t *ℤ d1 → g2 ≡ g1 +ℤ t *ℤ d2 → pos 0 ≤ℤ g0 → pos 0 ≤ℤ g2 → pos 0 ≤ℤ d1 → pos 0 ≤ℤ d2
+    → pos 0 ≤ℤ g1
 stays t g0 g1 g2 d1 d2 e f low high from to =
     elim (sign_of t) [
-      | Negative h ↦ let p : (d2 *ℤ t) ≤ℤ pos 0 = nonnegative_times_nonpositive d2 t to (omega (arith, sums)) in omega (arith, sums, *ℤ_comm d2 t)
+      | Negative h ↦ let p : (d2 *ℤ t) ≤ℤ pos 0 = nonnegative_times_nonpositive d2 t to (omega (arith, sums)) in
+          omega (arith, sums, *ℤ_comm d2 t)
       | Zero h ↦ let p : pos 0 ≤ℤ (t *ℤ d1) = times_nonnegative t d1 (omega (arith, sums)) from in omega (arith, sums)
       | Positive h ↦ let p : pos 0 ≤ℤ (t *ℤ d1) = times_nonnegative t d1 (omega (arith, sums)) from in omega (arith, sums)
     ]
 
-pub gap_stays : (k : ℤ) (a b c d v q w : Place) → pos 0 ≤ℤ gap k a b c d v → pos 0 ≤ℤ gap k a b c d w → pos 0 ≤ℤ way k v q → pos 0 ≤ℤ way k q w → pos 0 ≤ℤ gap k a b c d q
-gap_stays k a b c d v q w low high from to = stays (turn_of a b c d) (gap k a b c d v) (gap k a b c d q) (gap k a b c d w) (way k v q) (way k q w) (gap_moves k a b c d v q) (gap_moves k a b c d q w) low high from to
+pub gap_stays : (k : ℤ) (a b c d v q w : Place) → pos 0 ≤ℤ gap k a b c d v → pos 0 ≤ℤ gap k a b c d w → pos 0 ≤ℤ way k v q
+    → pos 0 ≤ℤ way k q w → pos 0 ≤ℤ gap k a b c d q
+gap_stays k a b c d v q w low high from to = stays (turn_of a b c d) (gap k a b c d v) (gap k a b c d q) (gap k a b c d w) (way k v q)
+    (way k q w) (gap_moves k a b c d v q) (gap_moves k a b c d q w) low high from to
 
 pub zero_at_start : (a b : Place) → area_of a b a ≡ pos 0
 zero_at_start a b = identity_4 a.x a.y b.x b.y (λ x y z w. (z ⊖ x) ⊗ (y ⊖ y) ⊖ (w ⊖ y) ⊗ (x ⊖ x) ≈ Whole (pos 0)) refl
@@ -146,7 +153,8 @@ fan_moves k o b c d =
     (area_in s p r ⊗ way_in n s q ≈ area_in s p q ⊗ way_in n s r ⊕ area_in s q r ⊗ way_in n s p) refl
 
 -- where the second turns up from the first, and the third from the second, the third turns up from the first
-pub fan : (o b c d : Place) → IsBefore o b → IsBefore o c → IsBefore o d → pos 0 <ℤ area_of o b c → pos 0 <ℤ area_of o c d → pos 0 <ℤ area_of o b d
+pub fan : (o b c d : Place) → IsBefore o b → IsBefore o c → IsBefore o d → pos 0 <ℤ area_of o b c → pos 0 <ℤ area_of o c d
+    → pos 0 <ℤ area_of o b d
 fan o b c d hb hc hd x y =
     let k = wide_for (o.y -ℤ b.y) (o.y -ℤ c.y) (o.y -ℤ d.y) (pos 0) (pos 0) (pos 0) in
     let w = is_wide (o.y -ℤ b.y) (o.y -ℤ c.y) (o.y -ℤ d.y) (pos 0) (pos 0) (pos 0) in

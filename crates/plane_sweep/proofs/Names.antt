@@ -43,15 +43,18 @@ module _ (m : Map) (e f : EdgeRef) (before : IsEarlier e f) (n s t : ℤ) where
 
   at_starts : s ≡ pos 0 → t ≡ pos 0 → MayJoin e_start f_start → IsLawful (flags_between m e f) n s t
   at_starts p q (BothEnd h k) = Starts p q h k
-  at_starts p q (One same) = absurd (names_differ e f 0 before (arcs_are e_start f_start same) (let ats = ats_are e_start f_start same in omega (arith, ats)))
+  at_starts p q (One same) = absurd (names_differ e f 0 before (arcs_are e_start f_start same) (let ats = ats_are e_start f_start same in
+      omega (arith, ats)))
 
   at_start_and_end : s ≡ pos 0 → t ≡ n → MayJoin e_start f_end → IsLawful (flags_between m e f) n s t
   at_start_and_end p q (BothEnd h k) = StartAndEnd p q h k
-  at_start_and_end p q (One same) = Previous p q (same_both e.arc f.arc (f.at + 1) e.at (arcs_are e_start f_end same) (sym (ats_are e_start f_end same)))
+  at_start_and_end p q (One same) = Previous p q (same_both e.arc f.arc (f.at + 1) e.at (arcs_are e_start f_end same)
+      (sym (ats_are e_start f_end same)))
 
   at_end_and_start : s ≡ n → t ≡ pos 0 → MayJoin e_end f_start → IsLawful (flags_between m e f) n s t
   at_end_and_start p q (BothEnd h k) = EndAndStart p q h k
-  at_end_and_start p q (One same) = Next p q (same_both e.arc f.arc (e.at + 1) f.at (arcs_are e_end f_start same) (ats_are e_end f_start same))
+  at_end_and_start p q (One same) = Next p q (same_both e.arc f.arc (e.at + 1) f.at (arcs_are e_end f_start same)
+      (ats_are e_end f_start same))
 
   at_ends : s ≡ n → t ≡ n → MayJoin e_end f_end → IsLawful (flags_between m e f) n s t
   at_ends p q (BothEnd h k) = Ends p q h k
@@ -67,7 +70,9 @@ all_left n s e = omega (arith, sums)
 abbrev span : Corner → Corner → EdgeRef → Span
 span low high e = record { low = low; high = high; edge = e }
 
-plain : (m : Map) (e f : EdgeRef) → IsEarlier e f → MeetLawfully (span (corner_in m e.arc e.at) (corner_in m e.arc (e.at + 1)) e) (span (corner_in m f.arc f.at) (corner_in m f.arc (f.at + 1)) f) → ¬ (EdgesClash m e f)
+plain : (m : Map) (e f : EdgeRef) → IsEarlier e f
+    → MeetLawfully (span (corner_in m e.arc e.at) (corner_in m e.arc (e.at + 1)) e)
+    (span (corner_in m f.arc f.at) (corner_in m f.arc (f.at + 1)) f) → ¬ (EdgesClash m e f)
 plain m e f before law clash = clash.unlawful (elim (law clash.common) [
   | Lows p q j ↦ at_starts m e f before _ _ _ p q j
   | LowAndHigh p q j ↦ at_start_and_end m e f before _ _ _ p q j
@@ -75,7 +80,9 @@ plain m e f before law clash = clash.unlawful (elim (law clash.common) [
   | Highs p q j ↦ at_ends m e f before _ _ _ p q j
 ])
 
-first_back : (m : Map) (e f : EdgeRef) → IsEarlier e f → MeetLawfully (span (corner_in m e.arc (e.at + 1)) (corner_in m e.arc e.at) e) (span (corner_in m f.arc f.at) (corner_in m f.arc (f.at + 1)) f) → ¬ (EdgesClash m e f)
+first_back : (m : Map) (e f : EdgeRef) → IsEarlier e f
+    → MeetLawfully (span (corner_in m e.arc (e.at + 1)) (corner_in m e.arc e.at) e)
+    (span (corner_in m f.arc f.at) (corner_in m f.arc (f.at + 1)) f) → ¬ (EdgesClash m e f)
 first_back m e f before law clash = clash.unlawful (elim (law (first_turned _ _ _ _ clash.common)) [
   | Lows p q j ↦ at_end_and_start m e f before _ _ _ (none_left _ _ p) q j
   | LowAndHigh p q j ↦ at_ends m e f before _ _ _ (none_left _ _ p) q j
@@ -83,7 +90,9 @@ first_back m e f before law clash = clash.unlawful (elim (law (first_turned _ _ 
   | Highs p q j ↦ at_start_and_end m e f before _ _ _ (all_left _ _ p) q j
 ])
 
-second_back : (m : Map) (e f : EdgeRef) → IsEarlier e f → MeetLawfully (span (corner_in m e.arc e.at) (corner_in m e.arc (e.at + 1)) e) (span (corner_in m f.arc (f.at + 1)) (corner_in m f.arc f.at) f) → ¬ (EdgesClash m e f)
+second_back : (m : Map) (e f : EdgeRef) → IsEarlier e f
+    → MeetLawfully (span (corner_in m e.arc e.at) (corner_in m e.arc (e.at + 1)) e)
+    (span (corner_in m f.arc (f.at + 1)) (corner_in m f.arc f.at) f) → ¬ (EdgesClash m e f)
 second_back m e f before law clash = clash.unlawful (elim (law (second_turned _ _ _ _ clash.common)) [
   | Lows p q j ↦ at_start_and_end m e f before _ _ _ p (none_left _ _ q) j
   | LowAndHigh p q j ↦ at_starts m e f before _ _ _ p (all_left _ _ q) j
@@ -91,7 +100,9 @@ second_back m e f before law clash = clash.unlawful (elim (law (second_turned _ 
   | Highs p q j ↦ at_end_and_start m e f before _ _ _ p (all_left _ _ q) j
 ])
 
-both_back : (m : Map) (e f : EdgeRef) → IsEarlier e f → MeetLawfully (span (corner_in m e.arc (e.at + 1)) (corner_in m e.arc e.at) e) (span (corner_in m f.arc (f.at + 1)) (corner_in m f.arc f.at) f) → ¬ (EdgesClash m e f)
+both_back : (m : Map) (e f : EdgeRef) → IsEarlier e f
+    → MeetLawfully (span (corner_in m e.arc (e.at + 1)) (corner_in m e.arc e.at) e)
+    (span (corner_in m f.arc (f.at + 1)) (corner_in m f.arc f.at) f) → ¬ (EdgesClash m e f)
 both_back m e f before law clash = clash.unlawful (elim (law (first_turned _ _ _ _ (second_turned _ _ _ _ clash.common))) [
   | Lows p q j ↦ at_ends m e f before _ _ _ (none_left _ _ p) (none_left _ _ q) j
   | LowAndHigh p q j ↦ at_end_and_start m e f before _ _ _ (none_left _ _ p) (all_left _ _ q) j
@@ -99,14 +110,16 @@ both_back m e f before law clash = clash.unlawful (elim (law (first_turned _ _ _
   | Highs p q j ↦ at_starts m e f before _ _ _ (all_left _ _ p) (all_left _ _ q) j
 ])
 
-spans_are : (s t : Span) (a b c d : Corner) → s.low ≡ a → s.high ≡ b → t.low ≡ c → t.high ≡ d → MeetLawfully s t → MeetLawfully (span a b s.edge) (span c d t.edge)
+spans_are : (s t : Span) (a b c d : Corner) → s.low ≡ a → s.high ≡ b → t.low ≡ c → t.high ≡ d → MeetLawfully s t
+    → MeetLawfully (span a b s.edge) (span c d t.edge)
 spans_are s t a b c d p q u v law =
     subst (λ x. MeetLawfully (span x b s.edge) (span c d t.edge)) p
     (subst (λ x. MeetLawfully (span s.low x s.edge) (span c d t.edge)) q
     (subst (λ x. MeetLawfully s (span x d t.edge)) u
     (subst (λ x. MeetLawfully s (span t.low x t.edge)) v law)))
 
-pub lawful_is_no_clash : (m : Map) (s t : Span) → IsSpanOf m s → IsSpanOf m t → IsEarlier s.edge t.edge → MeetLawfully s t → ¬ (EdgesClash m s.edge t.edge)
+pub lawful_is_no_clash : (m : Map) (s t : Span) → IsSpanOf m s → IsSpanOf m t → IsEarlier s.edge t.edge → MeetLawfully s t
+    → ¬ (EdgesClash m s.edge t.edge)
 lawful_is_no_clash m s t first second before law =
     elim first.ends [
       | inl a ↦ elim second.ends [

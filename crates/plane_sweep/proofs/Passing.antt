@@ -15,26 +15,31 @@ use Rattle.plane_sweep.specs.Passage.{FirstHas, LastHas, Chained, TurnsUp, EndsA
 use Rattle.plane_sweep.proofs.Gaps.{fan, zero_at_end}
 use Rattle.plane_sweep.proofs.Under.{join_both, Spanned, under_at, Ended, under_is_lawful, lawful_turned, next_is_lawful, later_is_lawful}
 use Rattle.plane_sweep.proofs.Under.Ended.{EndedAbove, EndedBelow, EndedTogether}
-use Rattle.plane_sweep.proofs.Lists.{contains_cases, contains_none, contains_first, contains_later, of_each, each_by, two_first, two_second, two_across, two_joined, two_either, chained_first, chained_second}
+use Rattle.plane_sweep.proofs.Lists.{contains_cases, contains_none, contains_first, contains_later, of_each, each_by, two_first, two_second}
+use Rattle.plane_sweep.proofs.Lists.{two_across, two_joined, two_either, chained_first, chained_second}
 
 -- ---- the sides of all spans, from those of the nearest
 
 abbrev IsRising : Span → Type 0
 IsRising s = IsBefore s.low.place s.high.place
 
-all_below : (q : Place) (xs : List Span) → ((x : Span) → Contains xs x → Spanned x q) → EachTwo BeginsUnder xs → Chained EndsUnder xs → LastHas (λ s. pos 0 <ℤ side_of s q) xs → EachOf (λ s. pos 0 <ℤ side_of s q) xs
+all_below : (q : Place) (xs : List Span) → ((x : Span) → Contains xs x → Spanned x q) → EachTwo BeginsUnder xs → Chained EndsUnder xs
+    → LastHas (λ s. pos 0 <ℤ side_of s q) xs → EachOf (λ s. pos 0 <ℤ side_of s q) xs
 all_below q [] over two chain last = tt
 all_below q (x ∷ []) over two chain last = (last, tt)
 all_below q (x ∷ y ∷ zs) over two chain last =
     let rest = all_below q (y ∷ zs) (λ s member. over s (contains_later x (y ∷ zs) s member)) two.1 chain.1 last in
-    let under = under_at x y q (over x (contains_first x (y ∷ zs))) (over y (contains_later x (y ∷ zs) y (contains_first y zs))) two.0.0 chain.0 in
+    let under = under_at x y q (over x (contains_first x (y ∷ zs))) (over y (contains_later x (y ∷ zs) y (contains_first y zs))) two.0.0
+    chain.0 in
     (under.above rest.0, rest)
 
-all_above : (q : Place) (xs : List Span) → ((x : Span) → Contains xs x → Spanned x q) → EachTwo BeginsUnder xs → Chained EndsUnder xs → FirstHas (λ s. side_of s q <ℤ pos 0) xs → EachOf (λ s. side_of s q <ℤ pos 0) xs
+all_above : (q : Place) (xs : List Span) → ((x : Span) → Contains xs x → Spanned x q) → EachTwo BeginsUnder xs → Chained EndsUnder xs
+    → FirstHas (λ s. side_of s q <ℤ pos 0) xs → EachOf (λ s. side_of s q <ℤ pos 0) xs
 all_above q [] over two chain first = tt
 all_above q (x ∷ []) over two chain first = (first, tt)
 all_above q (x ∷ y ∷ zs) over two chain first =
-    let under = under_at x y q (over x (contains_first x (y ∷ zs))) (over y (contains_later x (y ∷ zs) y (contains_first y zs))) two.0.0 chain.0 in
+    let under = under_at x y q (over x (contains_first x (y ∷ zs))) (over y (contains_later x (y ∷ zs) y (contains_first y zs))) two.0.0
+    chain.0 in
     (first, all_above q (y ∷ zs) (λ s member. over s (contains_later x (y ∷ zs) s member)) two.1 chain.1 (under.below first))
 
 -- ---- spans that begin at one place
@@ -44,7 +49,8 @@ record BeginsRising (q : Place) (hub : Corner) (s : Span) : Type 0 where
   at : s.low.place ≡ q
   join : MayJoin hub s.low
 
-turns_on : (q : Place) (hub : Corner) (x y z : Span) → BeginsRising q hub x → BeginsRising q hub y → BeginsRising q hub z → TurnsUp x y → TurnsUp y z → TurnsUp x z
+turns_on : (q : Place) (hub : Corner) (x y z : Span) → BeginsRising q hub x → BeginsRising q hub y → BeginsRising q hub z → TurnsUp x y
+    → TurnsUp y z → TurnsUp x z
 turns_on q hub x y z bx by bz first second =
     let o = x.low.place in
     let y_at : y.low.place ≡ o = by.at ∙ sym bx.at in
@@ -58,7 +64,8 @@ turns_on q hub x y z bx by bz first second =
 together : (q : Place) (hub : Corner) (x y : Span) → BeginsRising q hub x → BeginsRising q hub y → TurnsUp x y → BeginsUnder x y
 together q hub x y bx by turn = Together (bx.at ∙ sym by.at) (join_both hub x.low y.low bx.join by.join) turn
 
-fan_from : (q : Place) (hub : Corner) (x : Span) (ys : List Span) → BeginsRising q hub x → EachOf (BeginsRising q hub) ys → FirstHas (TurnsUp x) ys → Chained TurnsUp ys → EachOf (BeginsUnder x) ys
+fan_from : (q : Place) (hub : Corner) (x : Span) (ys : List Span) → BeginsRising q hub x → EachOf (BeginsRising q hub) ys
+    → FirstHas (TurnsUp x) ys → Chained TurnsUp ys → EachOf (BeginsUnder x) ys
 fan_from q hub x [] bx all first chain = tt
 fan_from q hub x (y ∷ []) bx all first chain = (together q hub x y bx all.0 first, tt)
 fan_from q hub x (y ∷ z ∷ zs) bx all first chain = (
@@ -86,7 +93,8 @@ pub record Holds (done : List Span) (rest : List Place) (active : List Span) : T
   pub linked : Chained EndsUnder active
   pub done_rising : (s : Span) → Contains done s → IsBefore s.low.place s.high.place
   pub gone : (s : Span) → Contains done s → Contains active s ⊎ IsAhead s.high.place rest
-  pub pairs : (e f : Span) → Contains done e → Contains done f → ¬ (e.edge ≡ f.edge) → MeetLawfully e f ⊎ (Contains active e × Contains active f)
+  pub pairs : (e f : Span) → Contains done e → Contains done f → ¬ (e.edge ≡ f.edge)
+      → MeetLawfully e f ⊎ (Contains active e × Contains active f)
 
 pub holds_first : (rest : List Place) → Holds [] rest []
 holds_first rest = record {
@@ -101,7 +109,8 @@ holds_first rest = record {
 }
 
 -- past the last place all pairs are lawful
-pub holds_last : (done active : List Span) → Holds done [] active → (e f : Span) → Contains done e → Contains done f → ¬ (e.edge ≡ f.edge) → MeetLawfully e f
+pub holds_last : (done active : List Span) → Holds done [] active → (e f : Span) → Contains done e → Contains done f → ¬ (e.edge ≡ f.edge)
+    → MeetLawfully e f
 holds_last done active holds e f first second apart = elim (holds.pairs e f first second apart) [
   | inl law ↦ law
   | inr both ↦ absurd (contains_none e.high.place (holds.ends e both.0))
@@ -126,7 +135,8 @@ stands below block above s member = elim (Contains-append_cases below (block ++ 
   | inr later ↦ elim (Contains-append_cases block above s later) [ inl h ↦ Within h | inr h ↦ Above h ]
 ]
 
-module _ (q : Place) (done : List Span) (rest : List Place) (below block above new : List Span) (ahead : IsAhead q rest) (fresh : AreNew rest new) (passes : MayPass q below block above new) (holds : Holds done (q ∷ rest) (below ++ (block ++ above))) where
+module _ (q : Place) (done : List Span) (rest : List Place) (below block above new : List Span) (ahead : IsAhead q rest) (fresh :
+    AreNew rest new) (passes : MayPass q below block above new) (holds : Holds done (q ∷ rest) (below ++ (block ++ above))) where
   abbrev Old : List Span
   Old = below ++ (block ++ above)
 
@@ -180,10 +190,12 @@ module _ (q : Place) (done : List Span) (rest : List Place) (below block above n
   linked_above = chained_second EndsUnder block above (chained_second EndsUnder below (block ++ above) holds.linked)
 
   side_below : (s : Span) → Contains below s → pos 0 <ℤ side_of s q
-  side_below = of_each (λ s. pos 0 <ℤ side_of s q) below (all_below q below (λ s member. spanned s (old_below s member)) ordered_below linked_below passes.lower)
+  side_below = of_each (λ s. pos 0 <ℤ side_of s q) below (all_below q below (λ s member. spanned s (old_below s member)) ordered_below
+      linked_below passes.lower)
 
   side_above : (s : Span) → Contains above s → side_of s q <ℤ pos 0
-  side_above = of_each (λ s. side_of s q <ℤ pos 0) above (all_above q above (λ s member. spanned s (old_above s member)) ordered_above linked_above passes.upper)
+  side_above = of_each (λ s. side_of s q <ℤ pos 0) above (all_above q above (λ s member. spanned s (old_above s member)) ordered_above
+      linked_above passes.upper)
 
   ends_here : (s : Span) → Contains block s → EndsAt q passes.hub s
   ends_here = of_each (EndsAt q passes.hub) block passes.ends
@@ -216,18 +228,22 @@ module _ (q : Place) (done : List Span) (rest : List Place) (below block above n
   below_new : (x y : Span) → Contains below x → Contains new y → BeginsUnder x y
   below_new x y first second =
       let at = sym (begins_here y second).0 in
-      LaterAbove (subst (λ v. IsUpTo x.low.place v) at (up_to x.low.place q (low_before x (old_below x first)))) (subst (λ v. pos 0 <ℤ side_of x v) at (side_below x first))
+      LaterAbove (subst (λ v. IsUpTo x.low.place v) at (up_to x.low.place q (low_before x (old_below x first))))
+      (subst (λ v. pos 0 <ℤ side_of x v) at (side_below x first))
 
   new_above : (x y : Span) → Contains new x → Contains above y → BeginsUnder x y
   new_above x y first second =
       let at = sym (begins_here x first).0 in
-      LaterBelow (subst (λ v. IsUpTo y.low.place v) at (up_to y.low.place q (low_before y (old_above y second)))) (subst (λ v. side_of y v <ℤ pos 0) at (side_above y second))
+      LaterBelow (subst (λ v. IsUpTo y.low.place v) at (up_to y.low.place q (low_before y (old_above y second))))
+      (subst (λ v. side_of y v <ℤ pos 0) at (side_above y second))
 
   below_above : (x y : Span) → Contains below x → Contains above y → BeginsUnder x y
-  below_above x y first second = two_across BeginsUnder below (block ++ above) holds.ordered x y first (Contains-append_right block above y second)
+  below_above x y first second = two_across BeginsUnder below (block ++ above) holds.ordered x y first
+      (Contains-append_right block above y second)
 
   ordered_new : EachTwo BeginsUnder new
-  ordered_new = fan_two q passes.hub new (each_by (BeginsRising q passes.hub) new (λ s member. let b = begins_here s member in record { rising = fresh.rising s member; at = b.0; join = b.1 })) passes.fan
+  ordered_new = fan_two q passes.hub new (each_by (BeginsRising q passes.hub) new (λ s member. let b = begins_here s member in
+      record { rising = fresh.rising s member; at = b.0; join = b.1 })) passes.fan
 
   ordered_now : EachTwo BeginsUnder Now
   ordered_now =
@@ -258,10 +274,11 @@ module _ (q : Place) (done : List Span) (rest : List Place) (below block above n
       EndedTogether (a.0 ∙ sym b.0) (join_both passes.hub x.high y.high a.1 b.1)
 
   in_block : (x y : Span) → Contains block x → Contains block y → ¬ (x ≡ y) → MeetLawfully x y
-  in_block x y first second apart = elim (two_either BeginsUnder block (two_first BeginsUnder block above ordered_block_above) x y first second apart) [
-    | inl under ↦ under_is_lawful x y under (ended_together x y first second)
-    | inr over ↦ lawful_turned y x (under_is_lawful y x over (ended_together y x second first))
-  ]
+  in_block x y first second apart = elim (two_either BeginsUnder block (two_first BeginsUnder block above ordered_block_above) x y first
+      second apart) [
+        | inl under ↦ under_is_lawful x y under (ended_together x y first second)
+        | inr over ↦ lawful_turned y x (under_is_lawful y x over (ended_together y x second first))
+      ]
 
   abbrev Settled : Span → Span → Type 0
   Settled e f = MeetLawfully e f ⊎ (Contains Now e × Contains Now f)
@@ -296,7 +313,8 @@ module _ (q : Place) (done : List Span) (rest : List Place) (below block above n
   old_new : (e f : Span) → Contains done e → Contains new f → Settled e f
   old_new e f first second = elim (holds.gone e first) [
     | inl active ↦ active_new e f first second (stands below block above e active)
-    | inr past ↦ inl (later_is_lawful e f (holds.done_rising e first) (fresh.rising f second) (subst (λ v. IsBefore e.high.place v) (sym (begins_here f second).0) (past q (contains_first q rest))))
+    | inr past ↦ inl (later_is_lawful e f (holds.done_rising e first) (fresh.rising f second)
+        (subst (λ v. IsBefore e.high.place v) (sym (begins_here f second).0) (past q (contains_first q rest))))
   ]
 
   settled_turned : (e f : Span) → Settled e f → Settled f e
@@ -327,19 +345,22 @@ module _ (q : Place) (done : List Span) (rest : List Place) (below block above n
   ]
 
   -- what holds of those below, of the new ones and of those above holds of each active span
-  of_now : (P : Span → Type 0) → ((s : Span) → Contains below s → P s) → ((s : Span) → Contains new s → P s) → ((s : Span) → Contains above s → P s) → (s : Span) → Contains Now s → P s
+  of_now : (P : Span → Type 0) → ((s : Span) → Contains below s → P s) → ((s : Span) → Contains new s → P s)
+      → ((s : Span) → Contains above s → P s) → (s : Span) → Contains Now s → P s
   of_now P first second third s member = elim (stands below new above s member) [
     | Below h ↦ first s h
     | Within h ↦ second s h
     | Above h ↦ third s h
   ]
 
-  of_done : (P : Span → Type 0) → ((s : Span) → Contains done s → P s) → ((s : Span) → Contains new s → P s) → (s : Span) → Contains (done ++ new) s → P s
+  of_done : (P : Span → Type 0) → ((s : Span) → Contains done s → P s) → ((s : Span) → Contains new s → P s) → (s : Span)
+      → Contains (done ++ new) s → P s
   of_done P first second s member = elim (Contains-append_cases done new s member) [ inl h ↦ first s h | inr h ↦ second s h ]
 
   pub holds_past : Holds (done ++ new) rest Now
   holds_past = record {
-    rising = of_now (λ s. IsBefore s.low.place s.high.place) (λ s h. holds.rising s (old_below s h)) fresh.rising (λ s h. holds.rising s (old_above s h));
+    rising = of_now (λ s. IsBefore s.low.place s.high.place) (λ s h. holds.rising s (old_below s h)) fresh.rising (λ s h.
+        holds.rising s (old_above s h));
     begun = of_now (λ s. IsAhead s.low.place rest) (λ s h. begun_old s (old_below s h)) begun_new (λ s h. begun_old s (old_above s h));
     ends = of_now (λ s. Contains rest s.high.place) below_later fresh.ends above_later;
     ordered = ordered_now;
@@ -350,7 +371,9 @@ module _ (q : Place) (done : List Span) (rest : List Place) (below block above n
   }
 
 -- the active spans past a place
-pub holds_passed : (q : Place) (done : List Span) (rest : List Place) (new old now : List Span) → IsAhead q rest → AreNew rest new → IsPassage q new old now → Holds done (q ∷ rest) old → Holds (done ++ new) rest now
+pub holds_passed : (q : Place) (done : List Span) (rest : List Place) (new old now : List Span) → IsAhead q rest → AreNew rest new
+    → IsPassage q new old now → Holds done (q ∷ rest) old → Holds (done ++ new) rest now
 holds_passed q done rest new old now ahead fresh passage holds =
     subst (Holds (done ++ new) rest) (sym passage.after)
-    (holds_past q done rest passage.below passage.block passage.above new ahead fresh passage.passes (subst (Holds done (q ∷ rest)) passage.before holds))
+    (holds_past q done rest passage.below passage.block passage.above new ahead fresh passage.passes
+    (subst (Holds done (q ∷ rest)) passage.before holds))

@@ -27,7 +27,8 @@ pub record Sweeps (spans : List Span) (places : List Place) (left : List Span) (
   pub passed : (v : Place) → Contains places v → Contains rest v ⊎ IsAhead v rest
   pub holds : Holds done rest active
 
-pub sweeps_first : (spans : List Span) (places : List Place) (active : List Span) → active ≡ [] → Chained IsBefore places → Sweeps spans places spans places active
+pub sweeps_first : (spans : List Span) (places : List Place) (active : List Span) → active ≡ [] → Chained IsBefore places
+    → Sweeps spans places spans places active
 sweeps_first spans places active none chain = record {
   done = [];
   parts = refl;
@@ -36,7 +37,9 @@ sweeps_first spans places active none chain = record {
   holds = subst (Holds [] places) (sym none) (holds_first places);
 }
 
-module _ (spans : List Span) (places : List Place) (left : List Span) (rest : List Place) (old : List Span) (q : Place) (others : List Place) (new behind now : List Span) (rises : AllRise spans) (ends : HasHighs spans places) (step : rest ≡ q ∷ others) (cut : left ≡ new ++ behind) (begin : (s : Span) → Contains new s → s.low.place ≡ q) (before : Sweeps spans places left rest old) where
+module _ (spans : List Span) (places : List Place) (left : List Span) (rest : List Place) (old : List Span) (q : Place) (others :
+    List Place) (new behind now : List Span) (rises : AllRise spans) (ends : HasHighs spans places) (step : rest ≡ q ∷ others) (cut :
+    left ≡ new ++ behind) (begin : (s : Span) → Contains new s → s.low.place ≡ q) (before : Sweeps spans places left rest old) where
   chain_here : Chained IsBefore (q ∷ others)
   chain_here = subst (Chained IsBefore) step before.chain
 
@@ -44,7 +47,8 @@ module _ (spans : List Span) (places : List Place) (left : List Span) (rest : Li
   ahead_here = ahead_of q others chain_here.0 chain_here.1
 
   new_is : (s : Span) → Contains new s → Contains spans s
-  new_is s member = subst (λ xs. Contains xs s) (sym before.parts) (Contains-append_right before.done left s (subst (λ xs. Contains xs s) (sym cut) (Contains-append_left new behind s member)))
+  new_is s member = subst (λ xs. Contains xs s) (sym before.parts)
+      (Contains-append_right before.done left s (subst (λ xs. Contains xs s) (sym cut) (Contains-append_left new behind s member)))
 
   passed_here : (v : Place) → Contains places v → Contains (q ∷ others) v ⊎ IsAhead v (q ∷ others)
   passed_here v member = subst (λ xs. Contains xs v ⊎ IsAhead v xs) step (before.passed v member)
@@ -75,14 +79,21 @@ module _ (spans : List Span) (places : List Place) (left : List Span) (rest : Li
     parts = before.parts ∙ ap (λ xs. before.done ++ xs) cut ∙ sym (append_assoc before.done new behind);
     chain = chain_here.1;
     passed = passed_next;
-    holds = holds_passed q before.done others new old now ahead_here (record { rising = λ s member. rises s (new_is s member); ends = new_end }) passage (subst (λ xs. Holds before.done xs old) step before.holds);
+    holds = holds_passed q before.done others new old now ahead_here
+        (record { rising = λ s member. rises s (new_is s member); ends = new_end }) passage
+        (subst (λ xs. Holds before.done xs old) step before.holds);
   }
 
-pub sweeps_next : (spans : List Span) (places : List Place) (left : List Span) (rest : List Place) (old : List Span) (q : Place) (others : List Place) (new behind now : List Span) → AllRise spans → HasHighs spans places → rest ≡ q ∷ others → left ≡ new ++ behind → IsPassage q new old now → Sweeps spans places left rest old → Sweeps spans places behind others now
+pub sweeps_next : (spans : List Span) (places : List Place) (left : List Span) (rest : List Place) (old : List Span) (q : Place) (others :
+    List Place) (new behind now : List Span) → AllRise spans → HasHighs spans places → rest ≡ q ∷ others → left ≡ new ++ behind
+    → IsPassage q new old now → Sweeps spans places left rest old → Sweeps spans places behind others now
 sweeps_next spans places left rest old q others new behind now rises ends step cut passage before =
-    sweeps_by spans places left rest old q others new behind now rises ends step cut (λ s member. (of_each _ new passage.passes.begins s member).0) before passage
+    sweeps_by spans places left rest old q others new behind now rises ends step cut (λ s member.
+    (of_each _ new passage.passes.begins s member).0) before passage
 
-pub sweeps_last : (spans : List Span) (places : List Place) (left : List Span) (rest : List Place) (active : List Span) → rest ≡ [] → left ≡ [] → Sweeps spans places left rest active → AllMeetLawfully spans
+pub sweeps_last : (spans : List Span) (places : List Place) (left : List Span) (rest : List Place) (active : List Span) → rest ≡ []
+    → left ≡ [] → Sweeps spans places left rest active → AllMeetLawfully spans
 sweeps_last spans places left rest active no_place no_span sweeps e f first second apart =
     let all : spans ≡ sweeps.done = sweeps.parts ∙ ap (λ xs. sweeps.done ++ xs) no_span ∙ append-nil sweeps.done in
-    holds_last sweeps.done active (subst (λ xs. Holds sweeps.done xs active) no_place sweeps.holds) e f (subst (λ xs. Contains xs e) all first) (subst (λ xs. Contains xs f) all second) apart
+    holds_last sweeps.done active (subst (λ xs. Holds sweeps.done xs active) no_place sweeps.holds) e f
+    (subst (λ xs. Contains xs e) all first) (subst (λ xs. Contains xs f) all second) apart

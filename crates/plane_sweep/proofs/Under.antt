@@ -4,7 +4,8 @@ use lib.IntN.{*ℤ_comm, *ℤ-zero}
 use Rattle.grid_exact.specs.Geometry.{Place, area_of, CommonPoint, IsBefore}
 use Rattle.grid_exact.specs.Spans.{IsUpTo}
 use Rattle.grid_exact.proofs.WholeLaws.{sums}
-use Rattle.grid_exact.proofs.Signs.{sign_of, times_positive, times_negative, negative_times_negative, nonnegative_times_nonpositive, times_nonnegative, zero_from_times}
+use Rattle.grid_exact.proofs.Signs.{sign_of, times_positive, times_negative, negative_times_negative, nonnegative_times_nonpositive}
+use Rattle.grid_exact.proofs.Signs.{times_nonnegative, zero_from_times}
 use Rattle.grid_exact.proofs.Signs.SignOf.{Negative, Zero, Positive}
 use Rattle.grid_exact.proofs.Areas.{turn_of, area_abc, area_abd, area_cda, area_cdb}
 use Rattle.grid_exact.proofs.Commons.{common_swapped}
@@ -16,7 +17,8 @@ use Rattle.plane_sweep.specs.Meeting.MayJoin.{One, BothEnd}
 use Rattle.plane_sweep.specs.Meeting.IsJunction.{Lows, LowAndHigh, HighAndLow, Highs}
 use Rattle.plane_sweep.specs.Meeting.BeginsUnder.{LaterAbove, LaterBelow, Together}
 use Rattle.plane_sweep.specs.Meeting.EndsUnder.{SoonerAbove, SoonerBelow}
-use Rattle.plane_sweep.proofs.Gaps.{way, gap, wide_for, is_wide, way_positive, way_nonnegative, gap_stays, gap_by_first, gap_by_second, first_positive, second_negative, zero_at_start, zero_at_end}
+use Rattle.plane_sweep.proofs.Gaps.{way, gap, wide_for, is_wide, way_positive, way_nonnegative, gap_stays, gap_by_first, gap_by_second}
+use Rattle.plane_sweep.proofs.Gaps.{first_positive, second_negative, zero_at_start, zero_at_end}
 
 -- ---- corners
 
@@ -50,18 +52,43 @@ record NotOverUntil (k : ℤ) (e f : Span) (q : Place) : Type 0 where
   to : pos 0 ≤ℤ way k q stop
 
 above_from : (k : ℤ) (e f : Span) (v : Place) → pos 0 <ℤ way_of k f → v ≡ f.low.place → pos 0 ≤ℤ side_of e v → pos 0 ≤ℤ gap_of k e f v
-above_from k e f v wf is side = gap_by_first (side_of e v) (side_of f v) (way_of k e) (way_of k f) side (ap (side_of f) is ∙ zero_at_start f.low.place f.high.place) wf
+above_from k e f v wf is side = gap_by_first (side_of e v) (side_of f v) (way_of k e) (way_of k f) side (ap (side_of f) is
+    ∙ zero_at_start f.low.place f.high.place) wf
 
-not_over_from : (k : ℤ) (e f : Span) (q : Place) → pos 0 <ℤ way_of k e → pos 0 <ℤ way_of k f → pos 0 ≤ℤ way k e.low.place q → pos 0 ≤ℤ way k f.low.place q → BeginsUnder e f → NotOverFrom k e f q
-not_over_from k e f q we wf eq fq (LaterAbove h s) = record { start = f.low.place; low = above_from k e f f.low.place wf refl (omega (arith, sums)); from = fq }
-not_over_from k e f q we wf eq fq (LaterBelow h s) = record { start = e.low.place; low = gap_by_second (side_of e e.low.place) (side_of f e.low.place) (way_of k e) (way_of k f) (zero_at_start e.low.place e.high.place) (omega (arith, sums)) we; from = eq }
+not_over_from : (k : ℤ) (e f : Span) (q : Place) → pos 0 <ℤ way_of k e → pos 0 <ℤ way_of k f → pos 0 ≤ℤ way k e.low.place q
+    → pos 0 ≤ℤ way k f.low.place q → BeginsUnder e f → NotOverFrom k e f q
+not_over_from k e f q we wf eq fq (LaterAbove h s) = record {
+  start = f.low.place;
+  low =
+      above_from k e f f.low.place wf refl (omega (arith, sums));
+  from = fq;
+}
+not_over_from k e f q we wf eq fq (LaterBelow h s) = record {
+  start = e.low.place;
+  low =
+      gap_by_second (side_of e e.low.place) (side_of f e.low.place) (way_of k e) (way_of k f) (zero_at_start e.low.place e.high.place)
+      (omega (arith, sums)) we;
+  from = eq;
+}
 not_over_from k e f q we wf eq fq (Together same join turn) =
     let z : side_of e f.low.place ≡ pos 0 = ap (side_of e) (sym same) ∙ zero_at_start e.low.place e.high.place in
     record { start = f.low.place; low = above_from k e f f.low.place wf refl (omega (arith, sums)); from = fq }
 
-not_over_until : (k : ℤ) (e f : Span) (q : Place) → pos 0 <ℤ way_of k e → pos 0 <ℤ way_of k f → pos 0 ≤ℤ way k q e.high.place → pos 0 ≤ℤ way k q f.high.place → EndsUnder e f → NotOverUntil k e f q
-not_over_until k e f q we wf eq fq (SoonerAbove h s) = record { stop = f.high.place; high = gap_by_first (side_of e f.high.place) (side_of f f.high.place) (way_of k e) (way_of k f) s (zero_at_end f.low.place f.high.place) wf; to = fq }
-not_over_until k e f q we wf eq fq (SoonerBelow h s) = record { stop = e.high.place; high = gap_by_second (side_of e e.high.place) (side_of f e.high.place) (way_of k e) (way_of k f) (zero_at_end e.low.place e.high.place) s we; to = eq }
+not_over_until : (k : ℤ) (e f : Span) (q : Place) → pos 0 <ℤ way_of k e → pos 0 <ℤ way_of k f → pos 0 ≤ℤ way k q e.high.place
+    → pos 0 ≤ℤ way k q f.high.place → EndsUnder e f → NotOverUntil k e f q
+not_over_until k e f q we wf eq fq (SoonerAbove h s) = record {
+  stop = f.high.place;
+  high =
+      gap_by_first (side_of e f.high.place) (side_of f f.high.place) (way_of k e) (way_of k f) s (zero_at_end f.low.place f.high.place) wf;
+  to
+      = fq;
+}
+not_over_until k e f q we wf eq fq (SoonerBelow h s) = record {
+  stop = e.high.place;
+  high =
+      gap_by_second (side_of e e.high.place) (side_of f e.high.place) (way_of k e) (way_of k f) (zero_at_end e.low.place e.high.place) s we;
+  to = eq;
+}
 
 -- both spans reach over the place q, from their lower ends to their higher ones
 pub record Spanned (e : Span) (q : Place) : Type 0 where
@@ -80,8 +107,10 @@ under_at e f q over_e over_f begins ends =
     let w = is_wide (a.y -ℤ b.y) (c.y -ℤ d.y) (a.y -ℤ q.y) (c.y -ℤ q.y) (q.y -ℤ b.y) (q.y -ℤ d.y) in
     let we = way_positive k a b w.low w.first over_e.rising in
     let wf = way_positive k c d w.low w.second over_f.rising in
-    let start = not_over_from k e f q we wf (way_nonnegative k a q w.low w.third over_e.from) (way_nonnegative k c q w.low w.fourth over_f.from) begins in
-    let stop = not_over_until k e f q we wf (way_nonnegative k q b w.low w.fifth over_e.to) (way_nonnegative k q d w.low w.sixth over_f.to) ends in
+    let start = not_over_from k e f q we wf (way_nonnegative k a q w.low w.third over_e.from)
+    (way_nonnegative k c q w.low w.fourth over_f.from) begins in
+    let stop = not_over_until k e f q we wf (way_nonnegative k q b w.low w.fifth over_e.to) (way_nonnegative k q d w.low w.sixth over_f.to)
+    ends in
     let g = gap_stays k a b c d start.start q stop.stop start.low stop.high start.from stop.to in
     record {
       above = first_positive (side_of e q) (side_of f q) (way k a b) (way k c d) g we wf;
@@ -138,15 +167,18 @@ none_if m x h e = elim (sign_of m) [
 none_where : (n z : ℤ) → z ≡ pos 0 → n *ℤ z ≡ pos 0
 none_where n z e = ap (λ x. n *ℤ x) e ∙ *ℤ-zero n
 
-falling_lawful : (e f : Span) (h : CommonPoint e.low.place e.high.place f.low.place f.high.place) → turn_of e.low.place e.high.place f.low.place f.high.place <ℤ pos 0 → Ended e f → IsJunction e f h.denominator h.first h.second
+falling_lawful : (e f : Span) (h : CommonPoint e.low.place e.high.place f.low.place f.high.place)
+    → turn_of e.low.place e.high.place f.low.place f.high.place <ℤ pos 0 → Ended e f → IsJunction e f h.denominator h.first h.second
 falling_lawful e f h fall (EndedAbove s) =
     let a = e.low.place in let b = e.high.place in let c = f.low.place in let d = f.high.place in
     let one = h.whole in let high = h.second_high in
-    absurd (not_rising (h.denominator -ℤ h.second) (turn_of a b c d) (area_of a b d) h.denominator h.whole (omega (arith, sums)) fall (area_abd a b c d h) s)
+    absurd (not_rising (h.denominator -ℤ h.second) (turn_of a b c d) (area_of a b d) h.denominator h.whole (omega (arith, sums)) fall
+    (area_abd a b c d h) s)
 falling_lawful e f h fall (EndedBelow s) =
     let a = e.low.place in let b = e.high.place in let c = f.low.place in let d = f.high.place in
     let one = h.whole in let high = h.first_high in
-    absurd (not_sinking (h.denominator -ℤ h.first) (turn_of a b c d) (area_of c d b) h.denominator h.whole (omega (arith, sums)) fall (area_cdb a b c d h) s)
+    absurd (not_sinking (h.denominator -ℤ h.first) (turn_of a b c d) (area_of c d b) h.denominator h.whole (omega (arith, sums)) fall
+    (area_cdb a b c d h) s)
 falling_lawful e f h fall (EndedTogether same join) =
     let a = e.low.place in let b = e.high.place in let c = f.low.place in let d = f.high.place in
     let x = turn_of a b c d in
@@ -163,10 +195,12 @@ falling_lawful e f h fall (EndedTogether same join) =
 pub under_is_lawful : (e f : Span) → BeginsUnder e f → Ended e f → MeetLawfully e f
 under_is_lawful e f (LaterAbove _ s) ended h =
     let a = e.low.place in let b = e.high.place in let c = f.low.place in let d = f.high.place in
-    falling_lawful e f h (falls_by_second h.denominator h.second (turn_of a b c d) (area_of a b c) h.whole h.second_low (area_abc a b c d h) s) ended
+    falling_lawful e f h (falls_by_second h.denominator h.second (turn_of a b c d) (area_of a b c) h.whole h.second_low (area_abc a b c d h)
+    s) ended
 under_is_lawful e f (LaterBelow _ s) ended h =
     let a = e.low.place in let b = e.high.place in let c = f.low.place in let d = f.high.place in
-    falling_lawful e f h (falls_by_first h.denominator h.first (turn_of a b c d) (area_of c d a) h.whole h.first_low (area_cda a b c d h) s) ended
+    falling_lawful e f h (falls_by_first h.denominator h.first (turn_of a b c d) (area_of c d a) h.whole h.first_low (area_cda a b c d h) s)
+    ended
 under_is_lawful e f (Together same join turn) ended h =
     let a = e.low.place in let b = e.high.place in let c = f.low.place in let d = f.high.place in
     let x = turn_of a b c d in
@@ -193,13 +227,15 @@ pub lawful_turned : (e f : Span) → MeetLawfully e f → MeetLawfully f e
 lawful_turned e f law h = junction_turned e f _ _ _ (law (common_swapped e.low.place e.high.place f.low.place f.high.place h))
 
 -- f begins where e ends, and they may join there
-pub next_is_lawful : (e f : Span) → IsBefore e.low.place e.high.place → IsBefore f.low.place f.high.place → e.high.place ≡ f.low.place → MayJoin e.high f.low → MeetLawfully e f
+pub next_is_lawful : (e f : Span) → IsBefore e.low.place e.high.place → IsBefore f.low.place f.high.place → e.high.place ≡ f.low.place
+    → MayJoin e.high f.low → MeetLawfully e f
 next_is_lawful e f rise_e rise_f same join h =
     let j = after_meets e.low.place e.high.place f.low.place f.high.place rise_e (up_to_same e.high.place f.low.place same) rise_f h in
     HighAndLow j.at_end j.at_start join
 
 -- f begins after e has ended
-pub later_is_lawful : (e f : Span) → IsBefore e.low.place e.high.place → IsBefore f.low.place f.high.place → IsBefore e.high.place f.low.place → MeetLawfully e f
+pub later_is_lawful : (e f : Span) → IsBefore e.low.place e.high.place → IsBefore f.low.place f.high.place
+    → IsBefore e.high.place f.low.place → MeetLawfully e f
 later_is_lawful e f rise_e rise_f before h =
     let j = after_meets e.low.place e.high.place f.low.place f.high.place rise_e (up_to e.high.place f.low.place before) rise_f h in
     absurd (not_before_itself e.high.place f.low.place j.one_place before)

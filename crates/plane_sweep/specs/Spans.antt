@@ -10,12 +10,19 @@ use Rattle.plane_sweep.specs.declared.spans.Span.{Span}
 
 -- the position of an arc with this number
 abbrev pub corner_at : List Place → ℕ → ℕ → Corner
-corner_at positions arc at = record { arc = arc; at = at; is_end = (at == 0) || (at + 1 == length positions); place = slice_index_or positions at nowhere }
+corner_at positions arc at = record {
+  arc = arc;
+  at = at;
+  is_end = (at == 0) || (at + 1 == length positions);
+  place =
+      slice_index_or positions at nowhere;
+}
 
 -- the span is the edge of the arc from this position to the next, from its end that is before the other to that one
 pub record IsSpanAt (positions : List Place) (arc at : ℕ) (s : Span) : Type 0 where
   pub named : s.edge ≡ record { arc = arc; at = at }
-  pub ends : ((s.low ≡ corner_at positions arc at) × (s.high ≡ corner_at positions arc (at + 1))) ⊎ ((s.low ≡ corner_at positions arc (at + 1)) × (s.high ≡ corner_at positions arc at))
+  pub ends : ((s.low ≡ corner_at positions arc at) × (s.high ≡ corner_at positions arc (at + 1)))
+      ⊎ ((s.low ≡ corner_at positions arc (at + 1)) × (s.high ≡ corner_at positions arc at))
   pub rising : IsBefore s.low.place s.high.place
 
 -- the position of the map with this number in its arc
@@ -25,7 +32,8 @@ corner_in m arc at = corner_at (arc_at m arc) arc at
 -- the span is an edge of the map
 pub record IsSpanOf (m : Map) (s : Span) : Type 0 where
   pub edge : IsMapEdge m s.edge
-  pub ends : ((s.low ≡ corner_in m s.edge.arc s.edge.at) × (s.high ≡ corner_in m s.edge.arc (s.edge.at + 1))) ⊎ ((s.low ≡ corner_in m s.edge.arc (s.edge.at + 1)) × (s.high ≡ corner_in m s.edge.arc s.edge.at))
+  pub ends : ((s.low ≡ corner_in m s.edge.arc s.edge.at) × (s.high ≡ corner_in m s.edge.arc (s.edge.at + 1)))
+      ⊎ ((s.low ≡ corner_in m s.edge.arc (s.edge.at + 1)) × (s.high ≡ corner_in m s.edge.arc s.edge.at))
   pub rising : IsBefore s.low.place s.high.place
 
 -- one of the spans is this edge

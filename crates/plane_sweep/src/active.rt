@@ -1,9 +1,11 @@
 //! The active spans of the sweep by their numbers, from the lowest to the highest, and what one
 //! place does to them.
-ghost use Rattle.std.specs.Prelude.{◌≡◌, ◌↔◌, ◌≤◌, ◌-◌, ◌<ℤ◌, ◌++◌, IsTrue, IfOk, OnOk, length, take, drop, pos};
+ghost use Rattle.std.specs.Prelude.{◌≡◌, ◌↔◌, ◌≤◌, ◌-◌, ◌<ℤ◌, ◌++◌, IsTrue, IfOk, OnOk, length};
+ghost use Rattle.std.specs.Prelude.{take, drop, pos};
 ghost use Rattle.arc_map.specs.Edges.{EachOf};
 ghost use Rattle.plane_sweep.specs.Meeting.{EndsUnder, side_of};
-ghost use Rattle.plane_sweep.specs.Passage.{BeginsAt, Chained, EndsAt, FirstHas, IsPassage, LastHas, MayPass, TurnsUp};
+ghost use Rattle.plane_sweep.specs.Passage.{BeginsAt, Chained, EndsAt, FirstHas, IsPassage};
+ghost use Rattle.plane_sweep.specs.Passage.{LastHas, MayPass, TurnsUp};
 ghost use Rattle.plane_sweep.specs.Spans.{span_of, spans_in};
 
 use crate::spans::{Corner, Span, may_join, numbered};

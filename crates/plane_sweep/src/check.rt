@@ -24,7 +24,8 @@ pub enum Swept {
     Meets(EdgeRef, EdgeRef),
 }
 
-/// Whether edges of the map clash: `Clean` exactly where no two do. The only error is want of memory.
+/// Whether edges of the map clash: `Clean` exactly where no two do. The only error is want of
+/// memory.
 pub fn sweep(alloc: Global, map: &ArcMap) -> Result<Swept, NoMemory>
     ensures clean { IfOk result (λ swept. (swept ≡ Swept.Clean) ↔ HasNoClash map.now) }
     ensures meets { (e f : EdgeRef) → result ≡ Ok (Swept.Meets e f) → IsClash map.now e f }
@@ -47,13 +48,15 @@ fn found(map: &ArcMap, index: &EdgeIndex) -> Swept
     }
 }
 
-/// The map as an arranged one, or its meeting: the least clashing pair of edges, or where there is none the least feature
-/// point that lies on an edge, with the least such edge. The map is given up where it is not arranged.
+/// The map as an arranged one, or its meeting: the least clashing pair of edges, or where there is
+/// none the least feature point that lies on an edge, with the least such edge. The map is given up
+/// where it is not arranged.
 pub fn check_by_sweep(alloc: Global, map: ArcMap) -> Result<Arranged, CheckError>
     ensures same { IfOk result (λ arranged. arranged ≡ map) }
     ensures arranged { IfOk result (λ arranged. IsArranged map) }
     ensures edges { (e f : EdgeRef) → result ≡ Err (CheckError.Edges e f) → IsLeastClash map e f }
-    ensures point { (k : ℕ) (e : EdgeRef) → result ≡ Err (CheckError.PointOnArc k e) → IsLeastPoint map k e }
+    ensures point { (k : ℕ) (e : EdgeRef) → result ≡ Err (CheckError.PointOnArc k e)
+        → IsLeastPoint map k e }
 {
     if !is_clean(alloc, &map, u64::MAX)? {
         return check(alloc, map);
@@ -67,7 +70,8 @@ pub fn without_clash(alloc: Global, map: ArcMap) -> Result<Arranged, CheckError>
     ensures same { IfOk result (λ arranged. arranged ≡ map) }
     ensures arranged { IfOk result (λ arranged. IsArranged map) }
     ensures edges { (e f : EdgeRef) → result ≡ Err (CheckError.Edges e f) → IsLeastClash map e f }
-    ensures point { (k : ℕ) (e : EdgeRef) → result ≡ Err (CheckError.PointOnArc k e) → IsLeastPoint map k e }
+    ensures point { (k : ℕ) (e : EdgeRef) → result ≡ Err (CheckError.PointOnArc k e)
+        → IsLeastPoint map k e }
 {
     let slabs = EdgeSlabs::build(alloc, &map)?;
     if let Some((town, e)) = least_town(&map, &slabs) {

@@ -1,7 +1,8 @@
 //! The check of a map and its held arcs: by pairs of edges that come near one another, or by a
 //! sweep where those are many.
 ghost use Rattle.std.specs.Prelude.{◌≡◌, ℕ, Err, IfOk, IsTrue};
-ghost use Rattle.arc_map.specs.Arranged.{HasNoClash, IsArranged, IsHeldList, IsLeastClash, IsLeastPoint};
+ghost use Rattle.arc_map.specs.Arranged.{HasNoClash, IsArranged, IsHeldList, IsLeastClash};
+ghost use Rattle.arc_map.specs.Arranged.{IsLeastPoint};
 ghost use Rattle.arc_map.specs.declared.refs.EdgeRef.{EdgeRef};
 ghost use Rattle.arrangement_check.specs.declared.meeting.CheckError.{CheckError};
 

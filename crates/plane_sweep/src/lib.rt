@@ -1,4 +1,5 @@
-//! The check of a map by a plane sweep: whether edges clash, found in one pass over the map in the order of places.
+//! The check of a map by a plane sweep: whether edges clash, found in one pass over the map in the
+//! order of places.
 #![tactic(auto)]
 
 mod active;

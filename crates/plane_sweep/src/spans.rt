@@ -1,16 +1,19 @@
 //! The edges of a map as spans from their lower end to their higher one.
-ghost use Rattle.std.specs.Prelude.{◌≡◌, ◌↔◌, ◌<◌, ◌≤◌, ◌^◌, ◌+◌, ◌==◌, ◌||◌, IsTrue, IfOk, OnOk, length, slice_index_or};
+ghost use Rattle.std.specs.Prelude.{◌≡◌, ◌↔◌, ◌<◌, ◌≤◌, ◌^◌, ◌+◌, ◌==◌, ◌||◌, IsTrue, IfOk, OnOk};
+ghost use Rattle.std.specs.Prelude.{length, slice_index_or};
 ghost use Rattle.arc_map.specs.Arranged.{nowhere};
 ghost use Rattle.arc_map.specs.Map.{IsArc};
 ghost use Rattle.plane_sweep.specs.Meeting.{MayJoin};
-ghost use Rattle.plane_sweep.specs.Spans.{AreSpansBefore, AreSpansOf, IsSpanAt, no_corner, no_span, span_of, spans_in};
+ghost use Rattle.plane_sweep.specs.Spans.{AreSpansBefore, AreSpansOf, IsSpanAt, no_corner, no_span};
+ghost use Rattle.plane_sweep.specs.Spans.{span_of, spans_in};
 
 use arc_map::{ArcMap, EdgeRef, NoMemory};
 use grid_exact::{Frame, Point, area, order, precedes};
 use std::alloc::{AllocError, Global};
 use std::cmp::Ordering;
 
-// A position of an arc: its arc, its number in the arc, whether it is the first or the last there, and its place.
+// A position of an arc: its arc, its number in the arc, whether it is the first or the last there,
+// and its place.
 #[derive(Clone, Copy, PartialEq, Eq)]
 pub struct Corner {
     pub arc: u32,
@@ -34,7 +37,8 @@ pub fn may_join(v: &Corner, w: &Corner) -> bool
     *v == *w || (v.is_end && w.is_end)
 }
 
-// The edges of the map, in the order of their lower ends; those that begin at one place from the lowest to the highest.
+// The edges of the map, in the order of their lower ends; those that begin at one place from the
+// lowest to the highest.
 pub fn spans_of(alloc: Global, map: &ArcMap) -> Result<Vec<Span>, NoMemory>
     ensures { IfOk result (λ spans. AreSpansOf map.now spans.items) }
 {

@@ -52,7 +52,8 @@ fn edges_over(slabs: &EdgeSlabs, point: Point) -> EdgeWalk<'_>
     slabs.at_x(point.x())
 }
 
-// Whether the feature point lies on the edge, and the edge is before the other one, or there is no other.
+// Whether the feature point lies on the edge, and the edge is before the other one, or there is no
+// other.
 fn lies_below(map: &ArcMap, town: u32, e: EdgeRef, least: Option<EdgeRef>) -> bool
     requires point { town < length map.now.points }
     requires edge { IsMapEdge map.now e }

@@ -1,5 +1,6 @@
 -- What a run leaves of the arcs of a map, with the numbers of the vertices that its chains then have.
-use Rattle.std.proofs.Common.{◌≡◌, ◌∙◌, ◌==◌, ℕ, zero, suc, ◌+◌, ◌<◌, ◌≤◌, Bool, true, false, cond, filter, List, [], ◌∷◌, ◌++◌, map, length, get_or, drop, refl, sym, ap, subst, arith, add-one}
+use Rattle.std.proofs.Common.{◌≡◌, ◌∙◌, ◌==◌, ℕ, zero, suc, ◌+◌, ◌<◌, ◌≤◌, Bool, true, false, cond, filter, List, [], ◌∷◌, ◌++◌, map}
+use Rattle.std.proofs.Common.{length, get_or, drop, refl, sym, ap, subst, arith, add-one}
 use Rattle.std.specs.List.{AllZip}
 use Rattle.std.proofs.lemmas.Bool.Decides.{nat_tests}
 use Rattle.std.proofs.lemmas.List.{length-map, drop-drop, get_or-drop}
@@ -7,7 +8,8 @@ use Rattle.grid_exact.specs.Geometry.{Place}
 use Rattle.grid_exact.specs.Walks.{EachEdge, end_of}
 use Rattle.arc_map.specs.Vertices.{Vertex, places}
 use Rattle.arc_map.specs.Allowed.{IsPath}
-use Rattle.arc_map.specs.Arcs.{vertex, vertices_from, IsCutInto, IsListCutInto, AreChainsOf, chains_of_arc, chains_past_arc, joined_rests, joined_arc, arcs_now}
+use Rattle.arc_map.specs.Arcs.{vertex, vertices_from, IsCutInto, IsListCutInto, AreChainsOf, chains_of_arc, chains_past_arc, joined_rests}
+use Rattle.arc_map.specs.Arcs.{joined_arc, arcs_now}
 use Rattle.arc_map.specs.Arranged.{nowhere}
 use Rattle.arc_map.specs.Chains.{Chain}
 use Rattle.arc_map.specs.Edges.{EachOf}
@@ -28,12 +30,17 @@ first_place l at p ps e =
 one_dropped : (l : List Place) (at : ℕ) (p : Place) (ps : List Place) → drop at l ≡ p ∷ ps → drop (suc at) l ≡ ps
 one_dropped l at p ps e = ap (λ (k : ℕ). drop k l) (sym (add-one at)) ∙ sym (drop-drop 1 at l) ∙ ap (λ (qs : List Place). drop 1 qs) e
 
-spelled_from : (arc at : ℕ) (whole : List Place) (v : Vertex) (p : Place) (ps : List Place) → v.at ≡ at → drop at whole ≡ p ∷ ps → EachEdge (IsNextOf whole) v (vertices_from arc (suc at) ps)
+spelled_from : (arc at : ℕ) (whole : List Place) (v : Vertex) (p : Place) (ps : List Place) → v.at ≡ at → drop at whole ≡ p ∷ ps
+    → EachEdge (IsNextOf whole) v (vertices_from arc (suc at) ps)
 spelled_from arc at whole v p [] same rest = tt
-spelled_from arc at whole v p (q ∷ []) same rest = ((ap suc (sym same), sym (first_place whole (suc at) q [] (one_dropped whole at p (q ∷ []) rest))), tt)
+spelled_from arc at whole v p (q ∷ []) same rest =
+    ((ap suc (sym same), sym (first_place whole (suc at) q [] (one_dropped whole at p (q ∷ []) rest))), tt)
 spelled_from arc at whole v p (q ∷ r ∷ rs) same rest =
-    let next = one_dropped whole at p (q ∷ r ∷ rs) rest in
-    ((ap suc (sym same), sym (first_place whole (suc at) q (r ∷ rs) next)), spelled_from arc (suc at) whole (vertex arc (suc at) false q) q (r ∷ rs) refl next)
+    let next = one_dropped whole at p (q ∷ r ∷ rs) rest in (
+      (ap suc (sym same), sym (first_place whole (suc at) q (r ∷ rs) next)),
+      spelled_from arc (suc at) whole (vertex arc (suc at) false q) q
+          (r ∷ rs) refl next,
+    )
 
 places_from : (arc at : ℕ) (ps : List Place) → places (vertices_from arc at ps) ≡ ps
 places_from arc at [] = refl
@@ -42,14 +49,17 @@ places_from arc at (p ∷ q ∷ qs) = ap (λ (xs : List Place). p ∷ xs) (place
 
 -- ---- the walk that is left
 
-walk_left : (t : Terms) (v : Vertex) (ws : List Vertex) (ks ls : List Chain) → IsCutInto v ws ks → AllZip (IsLeftOf t) ks ls → IsPath (AreNear (NearBy t)) v ws (joined_rests ls)
+walk_left : (t : Terms) (v : Vertex) (ws : List Vertex) (ks ls : List Chain) → IsCutInto v ws ks → AllZip (IsLeftOf t) ks ls
+    → IsPath (AreNear (NearBy t)) v ws (joined_rests ls)
 walk_left t v ws [] [] cut left = cut
 walk_left t v ws [] (l ∷ ls) cut left = absurd left
 walk_left t v ws (k ∷ ks) [] cut left = absurd left
 walk_left t v ws (k ∷ ks) (l ∷ ls) cut left =
-    let here : IsPath (AreNear (NearBy t)) v k.rest l.rest = subst (λ (x : Vertex). IsPath (AreNear (NearBy t)) x k.rest l.rest) cut.0 left.0.path in
+    let here : IsPath (AreNear (NearBy t)) v k.rest l.rest = subst (λ (x : Vertex). IsPath (AreNear (NearBy t)) x k.rest l.rest) cut.0
+    left.0.path in
     let later = walk_left t (end_of v k.rest) cut.2 ks ls cut.4 left.1 in
-    let later' = subst (λ (x : Vertex). IsPath (AreNear (NearBy t)) x cut.2 (joined_rests ls)) (sym (path_end (NearBy t) v k.rest l.rest here)) later in
+    let later' = subst (λ (x : Vertex). IsPath (AreNear (NearBy t)) x cut.2 (joined_rests ls))
+    (sym (path_end (NearBy t) v k.rest l.rest here)) later in
     subst (λ (xs : List Vertex). IsPath (AreNear (NearBy t)) v xs (l.rest ++ joined_rests ls)) (sym cut.3)
     (path_joined (NearBy t) v k.rest l.rest cut.2 (joined_rests ls) here later')
 
@@ -59,7 +69,9 @@ walk_left t v ws (k ∷ ks) (l ∷ ls) cut left =
 abbrev IsLeftAt : Terms → List Place → List Place → List Chain → Type 0
 IsLeftAt t before after ls = IsThinned (NearBy t) before after (0 ∷ numbers_of (joined_rests ls))
 
-walk_is_left : (t : Terms) (arc : ℕ) (p : Place) (ps : List Place) (ws : List Vertex) (k : Chain) (ks : List Chain) (l : Chain) (ls : List Chain) → places ws ≡ ps → EachEdge (IsNextOf (p ∷ ps)) (vertex arc 0 true p) ws → IsCutInto (vertex arc 0 true p) ws (k ∷ ks) → AllZip (IsLeftOf t) (k ∷ ks) (l ∷ ls) → IsLeftAt t (p ∷ ps) (joined_arc (p ∷ ps) (l ∷ ls)) (l ∷ ls)
+walk_is_left : (t : Terms) (arc : ℕ) (p : Place) (ps : List Place) (ws : List Vertex) (k : Chain) (ks : List Chain) (l : Chain) (ls :
+    List Chain) → places ws ≡ ps → EachEdge (IsNextOf (p ∷ ps)) (vertex arc 0 true p) ws → IsCutInto (vertex arc 0 true p) ws (k ∷ ks)
+    → AllZip (IsLeftOf t) (k ∷ ks) (l ∷ ls) → IsLeftAt t (p ∷ ps) (joined_arc (p ∷ ps) (l ∷ ls)) (l ∷ ls)
 walk_is_left t arc p ps ws k ks l ls whole spelled cut left =
     let v = vertex arc 0 true p in
     let us = joined_rests (l ∷ ls) in
@@ -68,7 +80,8 @@ walk_is_left t arc p ps ws k ks l ls whole spelled cut left =
     let after : l.first.place ∷ places us ≡ map (λ i. get_or (p ∷ ps) i nowhere) (0 ∷ numbers_of us) =
     ap (λ (q : Place). q ∷ places us) start ∙ ap (λ (qs : List Place). p ∷ qs) (places_left (NearBy t) (p ∷ ps) v ws us spelled path) in
     let size : length (p ∷ ps) ≡ 0 + length ws + 1 = omega (arith, ap length whole, length-map ws (λ (x : Vertex). x.place)) in
-    thinned_by_path (NearBy t) (p ∷ ps) (l.first.place ∷ places us) (0 + length ws) (numbers_of us) size (near_leads (NearBy t) (p ∷ ps) v ws us refl spelled path) after
+    thinned_by_path (NearBy t) (p ∷ ps) (l.first.place ∷ places us) (0 + length ws) (numbers_of us) size
+    (near_leads (NearBy t) (p ∷ ps) v ws us refl spelled path) after
 
 no_walk : (arc : ℕ) (q : Place) (qs : List Place) → vertices_from arc 1 (q ∷ qs) ≡ [] → ⊥
 no_walk arc q [] e = cc
@@ -79,7 +92,8 @@ one_place t arc p =
     let none : List ℕ = [] in
     thinned_by_path (NearBy t) (p ∷ []) (p ∷ []) 0 none refl refl refl
 
-arc_is_left : (t : Terms) (arc : ℕ) (ps : List Place) (ks ls : List Chain) → 0 < length ps → IsListCutInto (vertices_from arc 0 ps) ks → AllZip (IsLeftOf t) ks ls → IsLeftAt t ps (joined_arc ps ls) ls
+arc_is_left : (t : Terms) (arc : ℕ) (ps : List Place) (ks ls : List Chain) → 0 < length ps → IsListCutInto (vertices_from arc 0 ps) ks
+    → AllZip (IsLeftOf t) ks ls → IsLeftAt t ps (joined_arc ps ls) ls
 arc_is_left t arc [] ks ls some cut left = absurd (omega arith)
 arc_is_left t arc (p ∷ []) [] [] some cut left = one_place t arc p
 arc_is_left t arc (p ∷ q ∷ qs) [] [] some cut left = absurd (no_walk arc q qs cut)
@@ -87,7 +101,8 @@ arc_is_left t arc (p ∷ ps) [] (l ∷ ls) some cut left = absurd left
 arc_is_left t arc (p ∷ ps) (k ∷ ks) [] some cut left = absurd left
 arc_is_left t arc (p ∷ []) (k ∷ ks) (l ∷ ls) some cut left = walk_is_left t arc p [] [] k ks l ls refl tt cut left
 arc_is_left t arc (p ∷ q ∷ qs) (k ∷ ks) (l ∷ ls) some cut left =
-    walk_is_left t arc p (q ∷ qs) (vertices_from arc 1 (q ∷ qs)) k ks l ls (places_from arc 1 (q ∷ qs)) (spelled_from arc 0 (p ∷ q ∷ qs) (vertex arc 0 true p) p (q ∷ qs) refl refl) cut left
+    walk_is_left t arc p (q ∷ qs) (vertices_from arc 1 (q ∷ qs)) k ks l ls (places_from arc 1 (q ∷ qs))
+    (spelled_from arc 0 (p ∷ q ∷ qs) (vertex arc 0 true p) p (q ∷ qs) refl refl) cut left
 
 -- ---- the chains of an arc
 
@@ -100,18 +115,23 @@ other_test m n h = grind (arith, nat_tests)
 abbrev pub of_arc : ℕ → List Chain → List Chain
 of_arc arc ks = filter (λ (k : Chain). k.first.arc == arc) ks
 
-of_here : (arc : ℕ) (here later : List Chain) → EachOf (λ k. k.first.arc ≡ arc) here → EachOf (λ k. suc arc ≤ k.first.arc) later → of_arc arc (here ++ later) ≡ here
+of_here : (arc : ℕ) (here later : List Chain) → EachOf (λ k. k.first.arc ≡ arc) here → EachOf (λ k. suc arc ≤ k.first.arc) later
+    → of_arc arc (here ++ later) ≡ here
 of_here arc [] [] h k = refl
 of_here arc [] (x ∷ xs) h k =
     let past = k.0 in
-    ap (λ (t : Bool). cond t (x ∷ of_arc arc xs) (of_arc arc xs)) (other_test x.first.arc arc (λ e. absurd (omega arith))) ∙ of_here arc [] xs tt k.1
-of_here arc (x ∷ xs) later h k = ap (λ (t : Bool). cond t (x ∷ of_arc arc (xs ++ later)) (of_arc arc (xs ++ later))) (same_test x.first.arc arc h.0) ∙ ap (λ (ys : List Chain). x ∷ ys) (of_here arc xs later h.1 k)
+    ap (λ (t : Bool). cond t (x ∷ of_arc arc xs) (of_arc arc xs)) (other_test x.first.arc arc (λ e. absurd (omega arith)))
+    ∙ of_here arc [] xs tt k.1
+of_here arc (x ∷ xs) later h k = ap (λ (t : Bool). cond t (x ∷ of_arc arc (xs ++ later)) (of_arc arc (xs ++ later)))
+    (same_test x.first.arc arc h.0) ∙ ap (λ (ys : List Chain). x ∷ ys) (of_here arc xs later h.1 k)
 
-of_later : (arc at : ℕ) (here later : List Chain) → arc < at → EachOf (λ k. k.first.arc ≡ arc) here → of_arc at (here ++ later) ≡ of_arc at later
+of_later : (arc at : ℕ) (here later : List Chain) → arc < at → EachOf (λ k. k.first.arc ≡ arc) here
+    → of_arc at (here ++ later) ≡ of_arc at later
 of_later arc at [] later past h = refl
 of_later arc at (x ∷ xs) later past h =
     let is = h.0 in
-    ap (λ (t : Bool). cond t (x ∷ of_arc at (xs ++ later)) (of_arc at (xs ++ later))) (other_test x.first.arc at (λ e. absurd (omega arith))) ∙ of_later arc at xs later past h.1
+    ap (λ (t : Bool). cond t (x ∷ of_arc at (xs ++ later)) (of_arc at (xs ++ later)))
+    (other_test x.first.arc at (λ e. absurd (omega arith))) ∙ of_later arc at xs later past h.1
 
 -- ---- all arcs
 
@@ -127,37 +147,59 @@ left_parts t [] later ls left = record { first = []; second = ls; whole = refl; 
 left_parts t (k ∷ ks) later [] left = absurd left
 left_parts t (k ∷ ks) later (l ∷ ls) left =
     let rest = left_parts t ks later ls left.1 in
-    record { first = l ∷ rest.first; second = rest.second; whole = ap (λ (xs : List Chain). l ∷ xs) rest.whole; first_left = (left.0, rest.first_left); second_left = rest.second_left }
+    record {
+      first = l ∷ rest.first;
+      second = rest.second;
+      whole = ap (λ (xs : List Chain). l ∷ xs) rest.whole;
+      first_left =
+          (left.0, rest.first_left);
+      second_left = rest.second_left;
+    }
 
-firsts_left : (t : Terms) (P : Vertex → Type 0) (ks ls : List Chain) → EachOf (λ k. P k.first) ks → AllZip (IsLeftOf t) ks ls → EachOf (λ l. P l.first) ls
+firsts_left : (t : Terms) (P : Vertex → Type 0) (ks ls : List Chain) → EachOf (λ k. P k.first) ks → AllZip (IsLeftOf t) ks ls
+    → EachOf (λ l. P l.first) ls
 firsts_left t P [] [] each left = tt
 firsts_left t P [] (l ∷ ls) each left = absurd left
 firsts_left t P (k ∷ ks) [] each left = absurd left
 firsts_left t P (k ∷ ks) (l ∷ ls) each left = (subst P (sym left.0.first) each.0, firsts_left t P ks ls each.1 left.1)
 
-arc_of_parts : (t : Terms) (arc : ℕ) (ps : List Place) (pss : List (List Place)) (here later first second : List Chain) → IsListCutInto (vertices_from arc 0 ps) here → EachOf (λ k. suc arc ≤ k.first.arc) later → AllZip (IsLeftOf t) here first → AllZip (IsLeftOf t) later second → ((j : ℕ) → j < length pss → 0 < length (get_or pss j []) → IsLeftAt t (get_or pss j []) (get_or (arcs_now (suc arc) pss second) j []) (of_arc (suc arc + j) second)) → (i : ℕ) → i < length (ps ∷ pss) → 0 < length (get_or (ps ∷ pss) i []) → IsLeftAt t (get_or (ps ∷ pss) i []) (get_or (arcs_now arc (ps ∷ pss) (first ++ second)) i []) (of_arc (arc + i) (first ++ second))
+arc_of_parts : (t : Terms) (arc : ℕ) (ps : List Place) (pss : List (List Place)) (here later first second : List Chain)
+    → IsListCutInto (vertices_from arc 0 ps) here → EachOf (λ k. suc arc ≤ k.first.arc) later → AllZip (IsLeftOf t) here first
+    → AllZip (IsLeftOf t) later second → ((j : ℕ) → j < length pss → 0 < length (get_or pss j [])
+    → IsLeftAt t (get_or pss j []) (get_or (arcs_now (suc arc) pss second) j []) (of_arc (suc arc + j) second)) → (i : ℕ)
+    → i < length (ps ∷ pss) → 0 < length (get_or (ps ∷ pss) i [])
+    → IsLeftAt t (get_or (ps ∷ pss) i []) (get_or (arcs_now arc (ps ∷ pss) (first ++ second)) i []) (of_arc (arc + i) (first ++ second))
 arc_of_parts t arc ps pss here later first second cut seconds first_left second_left more zero below some =
     let arcs = firsts_left t (λ v. v.arc ≡ arc) here first (parts_of_arc arc ps here cut).arcs first_left in
     let past = firsts_left t (λ v. suc arc ≤ v.arc) later second seconds second_left in
     let number : arc ≡ arc + 0 = omega arith in
     subst (λ (n : ℕ). IsLeftAt t ps (joined_arc ps (chains_of_arc arc (first ++ second))) (of_arc n (first ++ second))) number
-    (subst (λ (xs : List Chain). IsLeftAt t ps (joined_arc ps (chains_of_arc arc (first ++ second))) xs) (sym (of_here arc first second arcs past))
-    (subst (λ (xs : List Chain). IsLeftAt t ps (joined_arc ps xs) first) (sym (taken arc first second arcs past)) (arc_is_left t arc ps here first some cut first_left)))
+    (subst (λ (xs : List Chain). IsLeftAt t ps (joined_arc ps (chains_of_arc arc (first ++ second))) xs)
+    (sym (of_here arc first second arcs past))
+    (subst (λ (xs : List Chain). IsLeftAt t ps (joined_arc ps xs) first) (sym (taken arc first second arcs past))
+    (arc_is_left t arc ps here first some cut first_left)))
 arc_of_parts t arc ps pss here later first second cut seconds first_left second_left more (suc j) below some =
     let arcs = firsts_left t (λ v. v.arc ≡ arc) here first (parts_of_arc arc ps here cut).arcs first_left in
     let past = firsts_left t (λ v. suc arc ≤ v.arc) later second seconds second_left in
     let number : suc arc + j ≡ arc + suc j = omega arith in
     let after : arc < suc arc + j = omega arith in
-    subst (λ (n : ℕ). IsLeftAt t (get_or pss j []) (get_or (arcs_now (suc arc) pss (chains_past_arc arc (first ++ second))) j []) (of_arc n (first ++ second))) number
-    (subst (λ (xs : List Chain). IsLeftAt t (get_or pss j []) (get_or (arcs_now (suc arc) pss (chains_past_arc arc (first ++ second))) j []) xs) (sym (of_later arc (suc arc + j) first second after arcs))
-    (subst (λ (xs : List Chain). IsLeftAt t (get_or pss j []) (get_or (arcs_now (suc arc) pss xs) j []) (of_arc (suc arc + j) second)) (sym (left_over arc first second arcs past)) (more j (omega arith) some)))
+    subst (λ (n : ℕ). IsLeftAt t (get_or pss j []) (get_or (arcs_now (suc arc) pss (chains_past_arc arc (first ++ second))) j [])
+    (of_arc n (first ++ second))) number
+    (subst (λ (xs : List Chain). IsLeftAt t (get_or pss j []) (get_or (arcs_now (suc arc) pss (chains_past_arc arc (first ++ second))) j [])
+    xs) (sym (of_later arc (suc arc + j) first second after arcs))
+    (subst (λ (xs : List Chain). IsLeftAt t (get_or pss j []) (get_or (arcs_now (suc arc) pss xs) j []) (of_arc (suc arc + j) second))
+    (sym (left_over arc first second arcs past)) (more j (omega arith) some)))
 
-pub arcs_are_left : (t : Terms) (arc : ℕ) (pss : List (List Place)) (ks ls : List Chain) → AreChainsOf arc pss ks → AllZip (IsLeftOf t) ks ls → (i : ℕ) → i < length pss → 0 < length (get_or pss i []) → IsThinned (NearBy t) (get_or pss i []) (get_or (arcs_now arc pss ls) i []) (0 ∷ numbers_of (joined_rests (of_arc (arc + i) ls)))
+pub arcs_are_left : (t : Terms) (arc : ℕ) (pss : List (List Place)) (ks ls : List Chain) → AreChainsOf arc pss ks
+    → AllZip (IsLeftOf t) ks ls → (i : ℕ) → i < length pss → 0 < length (get_or pss i [])
+    → IsThinned (NearBy t) (get_or pss i []) (get_or (arcs_now arc pss ls) i []) (0 ∷ numbers_of (joined_rests (of_arc (arc + i) ls)))
 arcs_are_left t arc [] ks ls cut left i below some = absurd (omega arith)
 arcs_are_left t arc (ps ∷ pss) ks ls cut left i below some =
     let here = cut.0 in
     let later = cut.1 in
     let parts = left_parts t here later ls (subst (λ (xs : List Chain). AllZip (IsLeftOf t) xs ls) cut.2 left) in
     let seconds = (parts_of_arcs (suc arc) pss later cut.4).arcs in
-    subst (λ (xs : List Chain). IsLeftAt t (get_or (ps ∷ pss) i []) (get_or (arcs_now arc (ps ∷ pss) xs) i []) (of_arc (arc + i) xs)) (sym parts.whole)
-    (arc_of_parts t arc ps pss here later parts.first parts.second cut.3 seconds parts.first_left parts.second_left (λ j inside one. arcs_are_left t (suc arc) pss later parts.second cut.4 parts.second_left j inside one) i below some)
+    subst (λ (xs : List Chain). IsLeftAt t (get_or (ps ∷ pss) i []) (get_or (arcs_now arc (ps ∷ pss) xs) i []) (of_arc (arc + i) xs))
+    (sym parts.whole)
+    (arc_of_parts t arc ps pss here later parts.first parts.second cut.3 seconds parts.first_left parts.second_left (λ j inside one.
+    arcs_are_left t (suc arc) pss later parts.second cut.4 parts.second_left j inside one) i below some)

@@ -38,24 +38,35 @@ record IsPlaced (n : ℕ) (places : List ℕ) : Type 0 where
   rising : IsStrictlyIncreasing places
   within : (at : ℕ) → Contains places at → at < n
 
-places-are : (k : ℕ) (ranks places : List ℕ) (n : ℕ) → length ranks ≡ n → IsPlaced n places → ((at : ℕ) → at < n → (k ≤ get_or ranks at 0) ↔ Contains places at) → places_of_rank k ranks ≡ places
+places-are : (k : ℕ) (ranks places : List ℕ) (n : ℕ) → length ranks ≡ n → IsPlaced n places
+    → ((at : ℕ) → at < n → (k ≤ get_or ranks at 0) ↔ Contains places at) → places_of_rank k ranks ≡ places
 places-are k ranks places n long placed ranked =
-    rising_is_one (places_of_rank k ranks) places (IsStrictlyIncreasing-filter (λ at. nat_le k (get_or ranks at 0)) (range_with_len 0 (length ranks)) (range-rises (length ranks))) placed.rising
+    rising_is_one (places_of_rank k ranks) places (IsStrictlyIncreasing-filter (λ at. nat_le k (get_or ranks at 0))
+    (range_with_len 0 (length ranks)) (range-rises (length ranks))) placed.rising
     (λ at held.
-    let there = All-contains (Contains (range_with_len 0 (length ranks))) (places_of_rank k ranks) at (All-filter (λ i. nat_le k (get_or ranks i 0)) (Contains (range_with_len 0 (length ranks))) (range_with_len 0 (length ranks)) (All-contains_itself (range_with_len 0 (length ranks)))) held in
-    let passes = All-contains (λ i. nat_le k (get_or ranks i 0) ≡ true) (places_of_rank k ranks) at (filter_passes (λ i. nat_le k (get_or ranks i 0)) (range_with_len 0 (length ranks))) held in
+    let there = All-contains (Contains (range_with_len 0 (length ranks))) (places_of_rank k ranks) at
+    (All-filter (λ i. nat_le k (get_or ranks i 0)) (Contains (range_with_len 0 (length ranks))) (range_with_len 0 (length ranks))
+    (All-contains_itself (range_with_len 0 (length ranks)))) held in
+    let passes = All-contains (λ i. nat_le k (get_or ranks i 0) ≡ true) (places_of_rank k ranks) at
+    (filter_passes (λ i. nat_le k (get_or ranks i 0)) (range_with_len 0 (length ranks))) held in
     let below = in-range-only (length ranks) at there in
     (ranked at (omega arith)).0 (from-test k (get_or ranks at 0) passes))
     (λ at held.
     let below = placed.within at held in
-    filter_holds (λ i. nat_le k (get_or ranks i 0)) (range_with_len 0 (length ranks)) at (in-range (length ranks) at (omega arith)) (is-tested k (get_or ranks at 0) ((ranked at below).1 held)))
+    filter_holds (λ i. nat_le k (get_or ranks i 0)) (range_with_len 0 (length ranks)) at (in-range (length ranks) at (omega arith))
+    (is-tested k (get_or ranks at 0) ((ranked at below).1 held)))
 
 -- ---- one level
 
-position-on : (read now : List Place) (places : List ℕ) (i at : ℕ) → ArePlaces read now places → i < length places → slice_index places i ≡ at → get_or now i nowhere ≡ get_or read at nowhere
-position-on read now places i at are below is = ap (λ (ps : List Place). get_or ps i nowhere) are.positions ∙ get_or-map (place_at read) places i 0 nowhere below ∙ ap (place_at read) is
+position-on : (read now : List Place) (places : List ℕ) (i at : ℕ) → ArePlaces read now places → i < length places
+    → slice_index places i ≡ at → get_or now i nowhere ≡ get_or read at nowhere
+position-on read now places i at are below is = ap (λ (ps : List Place). get_or ps i nowhere) are.positions
+    ∙ get_or-map (place_at read) places i 0 nowhere below ∙ ap (place_at read) is
 
-tells : (m : Map) (bounds : List ℤ) (ranks : List (List ℕ)) (k : ℕ) (l : Level) → ((arc : ℕ) → arc < length m.arcs → 0 < length (arc_at m arc)) → ((arc : ℕ) → arc < length m.arcs → length (get_or ranks arc []) ≡ length (arc_at m arc)) → IsReached m bounds ranks k l → TellsLevel m bounds ranks k
+tells : (m : Map) (bounds : List ℤ) (ranks : List (List ℕ)) (k : ℕ) (l : Level)
+    → ((arc : ℕ) → arc < length m.arcs → 0 < length (arc_at m arc))
+    → ((arc : ℕ) → arc < length m.arcs → length (get_or ranks arc []) ≡ length (arc_at m arc)) → IsReached m bounds ranks k l
+    → TellsLevel m bounds ranks k
 tells m bounds ranks k l some long is = record {
   level = l;
   is = is.is;
@@ -64,7 +75,11 @@ tells m bounds ranks k l some long is = record {
   arcs = λ arc below.
       let are = is.of_map.arcs arc below in
       let same = places-are k (get_or ranks arc []) (l.places arc) (length (arc_at m arc)) (long arc below)
-      (record { rising = are.rising; within = λ at held. place-within (arc_at m arc) (arc_at l.left arc) (l.places arc) at (some arc below) are held })
+      (record {
+        rising = are.rising;
+        within = λ at held. place-within (arc_at m arc) (arc_at l.left arc) (l.places arc) at (some arc below)
+            are held;
+      })
       (λ at within. is.ranked arc at below within) in
       are.positions ∙ ap (map (place_at (arc_at m arc))) (sym same);
   arranged = is.of_map.arranged;
@@ -76,13 +91,15 @@ tells m bounds ranks k l some long is = record {
       let any = are.some in
       let count = ap length are.positions ∙ length-map (l.places arc) (place_at (arc_at m arc)) in
       let last : length (arc_at l.left arc) - 1 ≡ length (l.places arc) - 1 = omega arith in
-      ap (position_at l.left arc) last ∙ position-on (arc_at m arc) (arc_at l.left arc) (l.places arc) (length (l.places arc) - 1) (length (arc_at m arc) - 1) are (omega arith) are.last;
+      ap (position_at l.left arc) last ∙ position-on (arc_at m arc) (arc_at l.left arc) (l.places arc) (length (l.places arc) - 1)
+      (length (arc_at m arc) - 1) are (omega arith) are.last;
   inside = is.of_map.inside;
 }
 
 -- ---- all levels
 
-pub at-end : (m : Map) (bounds : List ℤ) (ranks : List (List ℕ)) (l : Level) → IsUpTo m bounds ranks (length bounds) l → AreRanks m bounds ranks
+pub at-end : (m : Map) (bounds : List ℤ) (ranks : List (List ℕ)) (l : Level) → IsUpTo m bounds ranks (length bounds) l
+    → AreRanks m bounds ranks
 at-end m bounds ranks l up = record {
   count = up.count;
   long = up.long;

@@ -38,7 +38,8 @@ levels_are_one m bounds (suc k) l other first second =
 -- ---- ranks
 
 -- the level of a position's rank keeps it, so it has this rank or more by the other ranks too
-no-less : (m : Map) (bounds : List ℤ) (ranks others : List (List ℕ)) → AreRanks m bounds ranks → AreRanks m bounds others → (arc at : ℕ) → arc < length m.arcs → at < length (arc_at m arc) → rank_at ranks arc at ≤ rank_at others arc at
+no-less : (m : Map) (bounds : List ℤ) (ranks others : List (List ℕ)) → AreRanks m bounds ranks → AreRanks m bounds others → (arc at : ℕ)
+    → arc < length m.arcs → at < length (arc_at m arc) → rank_at ranks arc at ≤ rank_at others arc at
 no-less m bounds ranks others first second arc at below within =
     let k = rank_at ranks arc at in
     let low = first.most arc at below within in
@@ -55,7 +56,8 @@ ranks_are_one m bounds ranks others first second =
     let below : arc < length m.arcs = omega (arith, inside, first.count) in
     let inside' : arc < length others = omega (arith, below, second.count) in
     let long = first.long arc below in
-    let same : get_or ranks arc [] ≡ get_or others arc [] = same_number_lists (get_or ranks arc []) (get_or others arc []) (first.long arc below ∙ sym (second.long arc below)) (λ at short.
+    let same : get_or ranks arc [] ≡ get_or others arc [] = same_number_lists (get_or ranks arc []) (get_or others arc [])
+    (first.long arc below ∙ sym (second.long arc below)) (λ at short.
     let within : at < length (arc_at m arc) = omega (arith, short, long) in
     let one = no-less m bounds ranks others first second arc at below within in
     let two = no-less m bounds others ranks second first arc at below within in

@@ -1,5 +1,6 @@
 -- Lists of rising numbers: numbers by numbers, the whole range, and lists with the same elements.
-use Rattle.std.proofs.Common.{◌≡◌, ◌∙◌, ℕ, zero, suc, ◌+◌, ◌-◌, ◌<◌, ◌≤◌, List, [], ◌∷◌, map, length, get_or, slice_index, inl, inr, refl, sym, ap, subst, arith}
+use Rattle.std.proofs.Common.{◌≡◌, ◌∙◌, ℕ, zero, suc, ◌+◌, ◌-◌, ◌<◌, ◌≤◌, List, [], ◌∷◌, map, length, get_or, slice_index, inl, inr, refl}
+use Rattle.std.proofs.Common.{sym, ap, subst, arith}
 use Rattle.std.specs.Prelude.{Contains}
 use Rattle.std.specs.List.{range_with_len}
 use Rattle.std.specs.List.Sorted.{IsStrictlyIncreasing}
@@ -15,7 +16,8 @@ pub rises : (xs : List ℕ) → IsStrictlyIncreasing xs → (i j : ℕ) → i < 
 rises xs rising i j less below = AllPairs-from_increasing xs rising i j 0 less below
 
 -- the place of the lesser element is the lesser
-pub earlier : (xs : List ℕ) → IsStrictlyIncreasing xs → (i j : ℕ) → i < length xs → j < length xs → slice_index xs i < slice_index xs j → i < j
+pub earlier : (xs : List ℕ) → IsStrictlyIncreasing xs → (i j : ℕ) → i < length xs → j < length xs → slice_index xs i < slice_index xs j
+    → i < j
 earlier xs rising i j inside below less = elim (cases_lt i j) [
   | inl before ↦ before
   | inr past ↦ absurd (omega (arith, rising_order xs rising j i past inside))
@@ -42,7 +44,8 @@ up-to-last xs rising i below = rising_order xs rising i (length xs - 1) (omega a
 pub picked : (xs ks : List ℕ) (n : ℕ) → n < length ks → slice_index (map (slice_index xs) ks) n ≡ slice_index xs (slice_index ks n)
 picked xs ks n below = get_or-map (slice_index xs) ks n 0 0 below
 
-pub picked-rise : (xs ks : List ℕ) → IsStrictlyIncreasing xs → IsStrictlyIncreasing ks → ((n : ℕ) → n < length ks → slice_index ks n < length xs) → IsStrictlyIncreasing (map (slice_index xs) ks)
+pub picked-rise : (xs ks : List ℕ) → IsStrictlyIncreasing xs → IsStrictlyIncreasing ks
+    → ((n : ℕ) → n < length ks → slice_index ks n < length xs) → IsStrictlyIncreasing (map (slice_index xs) ks)
 picked-rise xs ks rising along within n below =
     let count = length-map ks (slice_index xs) in
     let here : n < length ks = omega arith in
@@ -51,7 +54,8 @@ picked-rise xs ks rising along within n below =
     omega (arith, picked xs ks n here, picked xs ks (n + 1) next, less)
 
 -- what is picked is an element
-pub picked-is : (xs ks : List ℕ) (x : ℕ) → ((n : ℕ) → n < length ks → slice_index ks n < length xs) → Contains (map (slice_index xs) ks) x → Contains xs x
+pub picked-is : (xs ks : List ℕ) (x : ℕ) → ((n : ℕ) → n < length ks → slice_index ks n < length xs) → Contains (map (slice_index xs) ks) x
+    → Contains xs x
 picked-is xs ks x within held =
     let there = at-place (map (slice_index xs) ks) x held in
     let count = length-map ks (slice_index xs) in
@@ -59,12 +63,14 @@ picked-is xs ks x within held =
     let below : there.place < length ks = omega arith in
     contains-at xs x (slice_index ks there.place) (within there.place below) (sym (picked xs ks there.place below) ∙ there.is)
 
-pub map-picked : {A : Type 0} (f : ℕ → A) (xs ks : List ℕ) (qs : List A) (d : A) → qs ≡ map f xs → ((n : ℕ) → n < length ks → slice_index ks n < length xs) → map (λ i. get_or qs i d) ks ≡ map f (map (slice_index xs) ks)
+pub map-picked : {A : Type 0} (f : ℕ → A) (xs ks : List ℕ) (qs : List A) (d : A) → qs ≡ map f xs
+    → ((n : ℕ) → n < length ks → slice_index ks n < length xs) → map (λ i. get_or qs i d) ks ≡ map f (map (slice_index xs) ks)
 map-picked f xs [] qs d same within = refl
 map-picked {A = A} f xs (k ∷ ks) qs d same within =
     let below : k < length xs = within 0 (omega arith) in
     let one : get_or qs k d ≡ f (slice_index xs k) = ap (λ (bs : List A). get_or bs k d) same ∙ get_or-map f xs k 0 d below in
-    ap (λ (b : A). b ∷ map (λ i. get_or qs i d) ks) one ∙ ap (λ (bs : List A). f (slice_index xs k) ∷ bs) (map-picked f xs ks qs d same (λ n under. within (suc n) (omega arith)))
+    ap (λ (b : A). b ∷ map (λ i. get_or qs i d) ks) one ∙ ap (λ (bs : List A). f (slice_index xs k) ∷ bs)
+    (map-picked f xs ks qs d same (λ n under. within (suc n) (omega arith)))
 
 -- ---- the whole range
 
@@ -103,7 +109,8 @@ later_is_greater x xs n rising has =
     omega (arith, order, has.2)
 
 -- what stands behind the first of one list stands behind the first of the other
-behind_first : (x : ℕ) (xs ys : List ℕ) → IsStrictlyIncreasing (x ∷ xs) → ((n : ℕ) → Contains (x ∷ xs) n → Contains (x ∷ ys) n) → (n : ℕ) → Contains xs n → Contains ys n
+behind_first : (x : ℕ) (xs ys : List ℕ) → IsStrictlyIncreasing (x ∷ xs) → ((n : ℕ) → Contains (x ∷ xs) n → Contains (x ∷ ys) n) → (n : ℕ)
+    → Contains xs n → Contains ys n
 behind_first x xs ys rising says n has =
     let inside = has.1 in
     let there = says n (suc has.0, omega arith, has.2) in
@@ -113,7 +120,8 @@ behind_first x xs ys rising says n has =
     at_place zero within e = absurd (omega (arith, later_is_greater x xs n rising has, e))
     at_place (suc j) within e = (j, omega arith, e)
 
-pub rising_is_one : (xs ys : List ℕ) → IsStrictlyIncreasing xs → IsStrictlyIncreasing ys → ((n : ℕ) → Contains xs n → Contains ys n) → ((n : ℕ) → Contains ys n → Contains xs n) → xs ≡ ys
+pub rising_is_one : (xs ys : List ℕ) → IsStrictlyIncreasing xs → IsStrictlyIncreasing ys → ((n : ℕ) → Contains xs n → Contains ys n)
+    → ((n : ℕ) → Contains ys n → Contains xs n) → xs ≡ ys
 rising_is_one [] [] first second there back = refl
 rising_is_one [] (y ∷ ys) first second there back = let has = back y (0, omega arith, refl) in absurd (omega (arith, has.1))
 rising_is_one (x ∷ xs) [] first second there back = let has = there x (0, omega arith, refl) in absurd (omega (arith, has.1))
@@ -124,5 +132,6 @@ rising_is_one (x ∷ xs) (y ∷ ys) first second there back =
     let there_too = subst (λ (z : ℕ). (n : ℕ) → Contains (x ∷ xs) n → Contains (z ∷ ys) n) (sym same) there in
     let back_too = subst (λ (z : ℕ). (n : ℕ) → Contains (z ∷ ys) n → Contains (x ∷ xs) n) (sym same) back in
     let second_too = subst (λ (z : ℕ). IsStrictlyIncreasing (z ∷ ys)) (sym same) second in
-    let rest = rising_is_one xs ys (rising_tail x xs first) (rising_tail y ys second) (behind_first x xs ys first there_too) (behind_first x ys xs second_too back_too) in
+    let rest = rising_is_one xs ys (rising_tail x xs first) (rising_tail y ys second) (behind_first x xs ys first there_too)
+    (behind_first x ys xs second_too back_too) in
     cc

@@ -1,5 +1,6 @@
 -- The places that the records of a run keep are those that its outcome leaves.
-use Rattle.std.proofs.Common.{◌≡◌, ◌≢◌, ◌∙◌, ◌==◌, ℕ, zero, suc, ◌+◌, ◌-◌, ◌<◌, ◌≤◌, Bool, true, false, cond, filter, List, [], ◌∷◌, ◌++◌, All, map, length, get_or, set, drop, inl, inr, refl, sym, ap, subst, arith}
+use Rattle.std.proofs.Common.{◌≡◌, ◌≢◌, ◌∙◌, ◌==◌, ℕ, zero, suc, ◌+◌, ◌-◌, ◌<◌, ◌≤◌, Bool, true, false, cond, filter, List, [], ◌∷◌, ◌++◌}
+use Rattle.std.proofs.Common.{All, map, length, get_or, set, drop, inl, inr, refl, sym, ap, subst, arith}
 use Rattle.std.specs.Prelude.{Contains}
 use Rattle.std.specs.List.{flat_map}
 use Rattle.std.proofs.lemmas.List.{length-map, length-set, get_or-map, get_or-set_same, get_or-set_other, map-append}
@@ -51,7 +52,8 @@ record AreRecorded (k more : ℕ) (before after : List Chain) (records : List Re
 
 leads_within : (Pair : ℕ → ℕ → Type 0) (m i : ℕ) (rest : List ℕ) → LeadsTo Pair m i rest → All (λ n. n ≤ m) rest
 leads_within Pair m i [] leads = All-nil (λ n. n ≤ m)
-leads_within Pair m i (next ∷ rest) leads = All-cons (λ n. n ≤ m) next rest (LeadsTo-below Pair m next rest leads.2) (leads_within Pair m next rest leads.2)
+leads_within Pair m i (next ∷ rest) leads = All-cons (λ n. n ≤ m) next rest (LeadsTo-below Pair m next rest leads.2)
+    (leads_within Pair m next rest leads.2)
 
 none_held : (t : Terms) (arc : ℕ) → t.held ≡ [] → Contains t.held arc → ⊥
 none_held t arc none held =
@@ -59,7 +61,10 @@ none_held t arc none held =
     let few : length t.held ≡ 0 = ap length none in
     absurd (omega arith)
 
-each_more : (k more : ℕ) (before after : List Chain) (x : Chain) (records : List Record) (r : Record) (rest : List Record) → k < length before → records ≡ r ∷ rest → chain_at after k ≡ x → IsRecorded (chain_at before k) x r → AreRecorded (suc k) more (set before k x) after rest → (j : ℕ) → j < suc more → IsRecorded (chain_at before (k + j)) (chain_at after (k + j)) (get_or records j no_record)
+each_more : (k more : ℕ) (before after : List Chain) (x : Chain) (records : List Record) (r : Record) (rest : List Record)
+    → k < length before → records ≡ r ∷ rest → chain_at after k ≡ x → IsRecorded (chain_at before k) x r
+    → AreRecorded (suc k) more (set before k x) after rest → (j : ℕ) → j < suc more
+    → IsRecorded (chain_at before (k + j)) (chain_at after (k + j)) (get_or records j no_record)
 each_more k more before after x records r rest below split stays one later zero within =
     let here : k ≡ k + 0 = omega arith in
     subst (λ (n : ℕ). IsRecorded (chain_at before n) (chain_at after n) (get_or records 0 no_record)) here
@@ -69,10 +74,13 @@ each_more k more before after x records r rest below split stays one later (suc 
     let here : suc k + j ≡ k + suc j = omega arith in
     let other : suc k + j ≢ k = omega arith in
     subst (λ (n : ℕ). IsRecorded (chain_at before n) (chain_at after n) (get_or records (suc j) no_record)) here
-    (subst (λ (rs : List Record). IsRecorded (chain_at before (suc k + j)) (chain_at after (suc k + j)) (get_or rs (suc j) no_record)) (sym split)
-    (subst (λ (c : Chain). IsRecorded c (chain_at after (suc k + j)) (get_or rest j no_record)) (get_or-set_other before k (suc k + j) x no_chain other) (later.each j (omega arith))))
+    (subst (λ (rs : List Record). IsRecorded (chain_at before (suc k + j)) (chain_at after (suc k + j)) (get_or rs (suc j) no_record))
+    (sym split)
+    (subst (λ (c : Chain). IsRecorded c (chain_at after (suc k + j)) (get_or rest j no_record))
+    (get_or-set_other before k (suc k + j) x no_chain other) (later.each j (omega arith))))
 
-are_recorded : (t : Terms) (w : Work) (k more : ℕ) (records : List Record) (after : Work) → t.held ≡ [] → k + more ≤ length w.chains → AreReplaced t w k more records after → AreRecorded k more w.chains after.chains records
+are_recorded : (t : Terms) (w : Work) (k more : ℕ) (records : List Record) (after : Work) → t.held ≡ [] → k + more ≤ length w.chains
+    → AreReplaced t w k more records after → AreRecorded k more w.chains after.chains records
 are_recorded t w k zero records after none within run = record { count = ap length run.0; each = λ j below. absurd (omega arith) }
 are_recorded t w k (suc more) records after none within (inl run) = absurd (none_held t (chain_at w.chains k).first.arc none run.0)
 are_recorded t w k (suc more) records after none within (inr run) =
@@ -103,15 +111,19 @@ are_recorded t w k (suc more) records after none within (inr run) =
 vertex_number : (m : Map) (r : ChainRef) (i : ℕ) → i ≤ length (chain_in m r).rest → (vertex_at (chain_in m r) i).at ≡ r.«from» + i
 vertex_number m r zero within = omega arith
 vertex_number m r (suc i) within =
-    let long : length (chain_in m r).rest ≡ r.to - r.«from» = length-map-range_with_len (vertex_in m r.arc) (r.«from» + 1) (r.to - r.«from») in
+    let long : length (chain_in m r).rest ≡ r.to - r.«from» = length-map-range_with_len (vertex_in m r.arc) (r.«from» + 1) (r.to - r.«from»)
+    in
     let below : i < r.to - r.«from» = omega arith in
     let number : r.«from» + 1 + i ≡ r.«from» + suc i = omega arith in
-    ap (λ (v : Vertex). v.at) (get_or-map-range_with_len (vertex_in m r.arc) (r.«from» + 1) (r.to - r.«from») i (r.«from» + suc i) (chain_in m r).first below number)
+    ap (λ (v : Vertex). v.at) (get_or-map-range_with_len (vertex_in m r.arc) (r.«from» + 1) (r.to - r.«from») i (r.«from» + suc i)
+    (chain_in m r).first below number)
 
-numbers_at : (m : Map) (r : ChainRef) (ns : List ℕ) → All (λ i. i ≤ length (chain_in m r).rest) ns → numbers_of (vertices_at (chain_in m r) ns) ≡ map (λ i. r.«from» + i) ns
+numbers_at : (m : Map) (r : ChainRef) (ns : List ℕ) → All (λ i. i ≤ length (chain_in m r).rest) ns
+    → numbers_of (vertices_at (chain_in m r) ns) ≡ map (λ i. r.«from» + i) ns
 numbers_at m r [] within = refl
 numbers_at m r (n ∷ ns) within =
-    ap (λ (k : ℕ). k ∷ numbers_of (vertices_at (chain_in m r) ns)) (vertex_number m r n (All-head (λ i. i ≤ length (chain_in m r).rest) n ns within))
+    ap (λ (k : ℕ). k ∷ numbers_of (vertices_at (chain_in m r) ns))
+    (vertex_number m r n (All-head (λ i. i ≤ length (chain_in m r).rest) n ns within))
     ∙ ap (λ (ks : List ℕ). (r.«from» + n) ∷ ks) (numbers_at m r ns (All-tail (λ i. i ≤ length (chain_in m r).rest) n ns within))
 
 -- what is left of a chain of the map, with its record
@@ -122,17 +134,22 @@ record IsNumbered (l : Chain) (r : Record) : Type 0 where
 is_numbered : (m : Map) (ref : ChainRef) (l : Chain) (r : Record) → IsRecorded (chain_in m ref) l r → IsNumbered l r
 is_numbered m ref l r is = record {
   arc = ap (λ (v : Vertex). v.arc) is.first ∙ sym is.arc;
-  numbers = ap numbers_of is.rest ∙ numbers_at m ref (drop 1 r.kept) is.within ∙ ap (λ (n : ℕ). map (λ i. n + i) (drop 1 r.kept)) (sym is.start);
+  numbers = ap numbers_of is.rest ∙ numbers_at m ref (drop 1 r.kept) is.within
+      ∙ ap (λ (n : ℕ). map (λ i. n + i) (drop 1 r.kept)) (sym is.start);
 }
 
-chain_or_not : (b : Bool) (l : Chain) (r : Record) (ls : List Chain) (rs : List Record) → numbers_of l.rest ≡ later_places r → numbers_of (joined_rests ls) ≡ flat_map later_places rs → numbers_of (joined_rests (cond b (l ∷ ls) ls)) ≡ flat_map later_places (cond b (r ∷ rs) rs)
+chain_or_not : (b : Bool) (l : Chain) (r : Record) (ls : List Chain) (rs : List Record) → numbers_of l.rest ≡ later_places r
+    → numbers_of (joined_rests ls) ≡ flat_map later_places rs → numbers_of (joined_rests (cond b (l ∷ ls) ls))
+    ≡ flat_map later_places (cond b (r ∷ rs) rs)
 chain_or_not true l r ls rs here later =
     map-append (λ (v : Vertex). v.at) l.rest (joined_rests ls)
     ∙ ap (λ (ns : List ℕ). ns ++ numbers_of (joined_rests ls)) here
     ∙ ap (λ (ns : List ℕ). later_places r ++ ns) later
 chain_or_not false l r ls rs here later = later
 
-numbers_by_records : (arc : ℕ) (ls : List Chain) (rs : List Record) → length rs ≡ length ls → ((j : ℕ) → j < length ls → IsNumbered (chain_at ls j) (get_or rs j no_record)) → numbers_of (joined_rests (of_arc arc ls)) ≡ flat_map later_places (filter (λ (r : Record). r.arc == arc) rs)
+numbers_by_records : (arc : ℕ) (ls : List Chain) (rs : List Record) → length rs ≡ length ls
+    → ((j : ℕ) → j < length ls → IsNumbered (chain_at ls j) (get_or rs j no_record))
+    → numbers_of (joined_rests (of_arc arc ls)) ≡ flat_map later_places (filter (λ (r : Record). r.arc == arc) rs)
 numbers_by_records arc [] [] count each = refl
 numbers_by_records arc [] (r ∷ rs) count each = absurd (omega arith)
 numbers_by_records arc (l ∷ ls) [] count each = absurd (omega arith)
@@ -145,15 +162,19 @@ numbers_by_records arc (l ∷ ls) (r ∷ rs) count each =
 -- ---- the law
 
 -- the chain number j of the outcome, with its record
-recorded_at : (m : Map) (t : Terms) (after : Map) (records : List Record) → t.held ≡ [] → (is : IsOutcome m t after records) → (j : ℕ) → j < length is.refs → IsRecorded (chain_in m (get_or is.refs j no_ref)) (chain_at is.last.chains j) (get_or records j no_record)
+recorded_at : (m : Map) (t : Terms) (after : Map) (records : List Record) → t.held ≡ [] → (is : IsOutcome m t after records) → (j : ℕ)
+    → j < length is.refs → IsRecorded (chain_in m (get_or is.refs j no_ref)) (chain_at is.last.chains j) (get_or records j no_record)
 recorded_at m t after records none is j below =
     let count = length-map is.refs (chain_in m) in
     let number : 0 + j ≡ j = omega arith in
     let told = are_recorded t (work_of m is.refs) 0 (length is.refs) records is.last none (omega arith) is.replaced in
-    subst (λ (c : Chain). IsRecorded c (chain_at is.last.chains j) (get_or records j no_record)) (get_or-map (chain_in m) is.refs j no_ref no_chain below)
-    (subst (λ (n : ℕ). IsRecorded (chain_at (map (chain_in m) is.refs) n) (chain_at is.last.chains n) (get_or records j no_record)) number (told.each j below))
+    subst (λ (c : Chain). IsRecorded c (chain_at is.last.chains j) (get_or records j no_record))
+    (get_or-map (chain_in m) is.refs j no_ref no_chain below)
+    (subst (λ (n : ℕ). IsRecorded (chain_at (map (chain_in m) is.refs) n) (chain_at is.last.chains n) (get_or records j no_record)) number
+    (told.each j below))
 
-record_count : (m : Map) (t : Terms) (after : Map) (records : List Record) → t.held ≡ [] → (is : IsOutcome m t after records) → length records ≡ length is.refs
+record_count : (m : Map) (t : Terms) (after : Map) (records : List Record) → t.held ≡ [] → (is : IsOutcome m t after records)
+    → length records ≡ length is.refs
 record_count m t after records none is =
     let count = length-map is.refs (chain_in m) in
     (are_recorded t (work_of m is.refs) 0 (length is.refs) records is.last none (omega arith) is.replaced).count
@@ -171,12 +192,16 @@ run_keeps_places m t after records none is arc below some =
     let few = record_count m t after records none is in
     let same : numbers_of (joined_rests (of_arc (0 + arc) ls)) ≡ flat_map later_places (filter (λ (r : Record). r.arc == arc) records) =
     ap (λ (n : ℕ). numbers_of (joined_rests (of_arc n ls))) number
-    ∙ numbers_by_records arc ls records (omega arith) (λ j under. is_numbered m (get_or refs j no_ref) (chain_at ls j) (get_or records j no_record) (recorded_at m t after records none is j (omega arith))) in
+    ∙ numbers_by_records arc ls records (omega arith) (λ j under.
+    is_numbered m (get_or refs j no_ref) (chain_at ls j) (get_or records j no_record)
+    (recorded_at m t after records none is j (omega arith))) in
     subst (λ (n : Map). IsThinned (NearBy t) (arc_at m arc) (arc_at n arc) (kept_of records arc)) (sym is.made)
-    (subst (λ (ns : List ℕ). IsThinned (NearBy t) (arc_at m arc) (get_or (arcs_now 0 m.arcs ls) arc []) (0 ∷ ns)) same (arcs_are_left t 0 m.arcs before ls is.chains.cut left arc below some))
+    (subst (λ (ns : List ℕ). IsThinned (NearBy t) (arc_at m arc) (get_or (arcs_now 0 m.arcs ls) arc []) (0 ∷ ns)) same
+    (arcs_are_left t 0 m.arcs before ls is.chains.cut left arc below some))
 
 -- each record is of an arc of the map, and keeps a place
-pub record_is_of_arc : (m : Map) (t : Terms) (after : Map) (records : List Record) → t.held ≡ [] → IsOutcome m t after records → All (λ r. (r.arc < length m.arcs) × (0 < length r.kept)) records
+pub record_is_of_arc : (m : Map) (t : Terms) (after : Map) (records : List Record) → t.held ≡ [] → IsOutcome m t after records
+    → All (λ r. (r.arc < length m.arcs) × (0 < length r.kept)) records
 record_is_of_arc m t after records none is =
     let few = record_count m t after records none is in
     All-from_get_or (λ (r : Record). (r.arc < length m.arcs) × (0 < length r.kept)) records no_record (λ j below.

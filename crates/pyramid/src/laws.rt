@@ -2,8 +2,8 @@
 ghost use Rattle.pyramid.specs.Laws.{RunKeepsPlaces, LevelsAreOne, RanksAreOne};
 
 /// Where no arc is held, the places of an arc that the records of a run keep are those that its
-/// outcome leaves: they rise from the first to the last, and each place that is skipped is within the
-/// bound of the edge that skips it.
+/// outcome leaves: they rise from the first to the last, and each place that is skipped is within
+/// the bound of the edge that skips it.
 pub fn run_keeps_places()
     ensures { RunKeepsPlaces }
 {}

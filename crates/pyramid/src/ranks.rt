@@ -12,7 +12,8 @@ use std::alloc::{AllocError, Global};
 use std::marker::Model;
 
 /// For each position of each arc of a map its rank: the number of the last level that keeps it,
-/// where the map read is level 0. Contracts see for each arc the list of the ranks of its positions.
+/// where the map read is level 0. Contracts see for each arc the list of the ranks of its
+/// positions.
 #[derive(Drop)]
 pub struct Ranks {
     ranks: Vec<Vec<u32>>,

@@ -5,7 +5,8 @@ use Rattle.grid_exact.specs.Geometry.{Place, CommonPoint}
 use Rattle.grid_exact.specs.Clash.{Flags, IsLawful, Clash}
 use Rattle.grid_exact.specs.Clash.IsLawful.{Starts, StartAndEnd, EndAndStart, Ends, Next, Previous}
 use Rattle.grid_exact.proofs.WholeLaws.{sums}
-use Rattle.grid_exact.proofs.Commons.{starts_are_one, start_is_end, end_is_start, ends_are_one, common_starts, common_start_and_end, common_end_and_start, common_ends}
+use Rattle.grid_exact.proofs.Commons.{starts_are_one, start_is_end, end_is_start, ends_are_one, common_starts, common_start_and_end}
+use Rattle.grid_exact.proofs.Commons.{common_end_and_start, common_ends}
 use Rattle.segment_tests.specs.Junction.{JoinLawfully}
 use Rattle.segment_tests.specs.Junction.JoinLawfully.{AtStarts, AtEnds, AtStartAndEnd, AtEndAndStart}
 use Rattle.segment_tests.specs.Meeting.{IsInner, MeetAtPoint, MeetInside}
@@ -39,7 +40,8 @@ clash_inside a b c d flags m =
 -- ---- one common point
 
 -- where the common point is a lawful junction, two ends may join
-joined : (a b c d : Place) (flags : Flags) (h : CommonPoint a b c d) → IsLawful flags h.denominator h.first h.second → JoinLawfully a b c d flags
+joined : (a b c d : Place) (flags : Flags) (h : CommonPoint a b c d) → IsLawful flags h.denominator h.first h.second
+    → JoinLawfully a b c d flags
 joined a b c d flags h (Starts e f p q) = AtStarts p q (starts_are_one a b c d h e f)
 joined a b c d flags h (StartAndEnd e f p q) = AtStartAndEnd (inl (p, q)) (start_is_end a b c d h e f)
 joined a b c d flags h (EndAndStart e f p q) = AtEndAndStart (inl (p, q)) (end_is_start a b c d h e f)
@@ -55,7 +57,8 @@ all : (n s : ℤ) → s *ℤ pos 1 ≡ pos 1 *ℤ n → s ≡ n
 all n s e = omega (arith, ints)
 
 -- and where two ends may join, the only common point is a lawful junction
-lawful : (a b c d : Place) (flags : Flags) → MeetAtPoint a b c d → JoinLawfully a b c d flags → (h : CommonPoint a b c d) → IsLawful flags h.denominator h.first h.second
+lawful : (a b c d : Place) (flags : Flags) → MeetAtPoint a b c d → JoinLawfully a b c d flags → (h : CommonPoint a b c d)
+    → IsLawful flags h.denominator h.first h.second
 lawful a b c d flags m (AtStarts p q e) h =
     let k = common_starts a b c d e in
     Starts (none h.denominator h.first (m.first h k)) (none h.denominator h.second (m.second h k)) p q
@@ -80,6 +83,7 @@ no_clash_at_point : (a b c d : Place) (flags : Flags) → MeetAtPoint a b c d �
 no_clash_at_point a b c d flags m j k = k.unlawful (lawful a b c d flags m j k.common)
 
 -- whether two ends may join tells whether edges clash that meet in one point
-pub clash_told : (a b c d : Place) (flags : Flags) (may_join : Bool) → MeetAtPoint a b c d → (IsTrue may_join ↔ JoinLawfully a b c d flags) → IsTrue (not may_join) ↔ Clash a b c d flags
+pub clash_told : (a b c d : Place) (flags : Flags) (may_join : Bool) → MeetAtPoint a b c d → (IsTrue may_join ↔ JoinLawfully a b c d flags)
+    → IsTrue (not may_join) ↔ Clash a b c d flags
 clash_told a b c d flags true m told = (λ t. cc, λ k. absurd (no_clash_at_point a b c d flags m (told.0 refl) k))
 clash_told a b c d flags false m told = (λ t. clash_at_point a b c d flags m (λ j. let no = told.1 j in cc), λ k. refl)

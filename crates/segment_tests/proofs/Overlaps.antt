@@ -7,7 +7,8 @@ use Rattle.segment_tests.specs.Laws.{ApartEdgesAreOrdered, OrderedEdgesAreApart}
 
 pub apart_are_ordered : ApartEdgesAreOrdered
 apart_are_ordered Plain a b c d h apart = one_above a b c d h.first h.second h.second_starts_in_time h.first_starts_in_time apart
-apart_are_ordered Turned a b c d h apart = one_above (turned a) (turned b) (turned c) (turned d) h.first h.second h.second_starts_in_time h.first_starts_in_time (λ k. apart (common_turned_back a b c d k))
+apart_are_ordered Turned a b c d h apart = one_above (turned a) (turned b) (turned c) (turned d) h.first h.second h.second_starts_in_time
+    h.first_starts_in_time (λ k. apart (common_turned_back a b c d k))
 
 pub ordered_are_apart : OrderedEdgesAreApart
 ordered_are_apart Plain a b c d h k = ordered_apart a b c d h k

@@ -16,4 +16,12 @@ is_joined_back Joined = false
 is_joined_back JoinedBack = true
 
 abbrev pub flags_of : Joint → Flags
-flags_of joint = record { a_end = joint.a_end; b_end = joint.b_end; c_end = joint.c_end; d_end = joint.d_end; joined = is_joined joint.neighbours; joined_back = is_joined_back joint.neighbours }
+flags_of joint = record {
+  a_end = joint.a_end;
+  b_end = joint.b_end;
+  c_end = joint.c_end;
+  d_end = joint.d_end;
+  joined =
+      is_joined joint.neighbours;
+  joined_back = is_joined_back joint.neighbours;
+}

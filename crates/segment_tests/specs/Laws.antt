@@ -19,7 +19,8 @@ pub record SpansMeet (frame : Frame) (a b c d : Place) : Type 0 where
 
 -- of the edges ab and cd, the same one is strictly above the other at both ends of the span that they share
 abbrev pub AreOrdered : Frame → Place → Place → Place → Place → Type 0
-AreOrdered frame a b c d = SameSign (start_gap (placed_in frame a) (placed_in frame b) (placed_in frame c) (placed_in frame d)) (end_gap (placed_in frame a) (placed_in frame b) (placed_in frame c) (placed_in frame d))
+AreOrdered frame a b c d = SameSign (start_gap (placed_in frame a) (placed_in frame b) (placed_in frame c) (placed_in frame d))
+    (end_gap (placed_in frame a) (placed_in frame b) (placed_in frame c) (placed_in frame d))
 
 -- two edges whose spans meet, and that have no common point, are ordered
 abbrev pub ApartEdgesAreOrdered : Type 0

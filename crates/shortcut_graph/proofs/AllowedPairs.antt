@@ -19,8 +19,11 @@ none_between vs i j e = ap (λ (n : ℕ). between (i + 1) n vs) e ∙ between_no
 neighbours : (vs : List Vertex) (i j : ℕ) → i < j → j < length vs → between (i + 1) j vs ≡ [] → j ≡ i + 1
 neighbours vs i j ij within e = omega (arith, length-between vs (i + 1) j (omega arith), ap length e)
 
-pub allowed_pair : ConsistencyByEdges → (weights : Scales) (bound : ℤ) (chains : List Chain) (points : List Place) (xs ys : List ℤ) (k i j : ℕ) → All (λ chain. 0 < length chain.rest) chains → AreWeighed weights (chain_places (chain_at chains k)) xs ys → i < j → j ≤ length (chain_at chains k).rest
-    → ((j ≡ i + 1) ⊎ (IsOpenPair chains points k i j × IsNearRun xs ys bound i j)) ↔ IsAllowedPair (IsWithinBound weights.x weights.y bound) chains points k i j
+pub allowed_pair : ConsistencyByEdges → (weights : Scales) (bound : ℤ) (chains : List Chain) (points : List Place) (xs ys : List ℤ) (k i j :
+    ℕ) → All (λ chain. 0 < length chain.rest) chains → AreWeighed weights (chain_places (chain_at chains k)) xs ys → i < j
+    → j ≤ length (chain_at chains k).rest
+    → ((j ≡ i + 1) ⊎ (IsOpenPair chains points k i j × IsNearRun xs ys bound i j))
+    ↔ IsAllowedPair (IsWithinBound weights.x weights.y bound) chains points k i j
 allowed_pair law weights bound chains points xs ys k i j edges weighed ij jm =
     let c = chain_at chains k in
     let consistent = law chains points k i j edges in
@@ -29,10 +32,24 @@ allowed_pair law weights bound chains points xs ys k i j edges weighed ij jm =
         | inl e ↦ Neighbours (none_between (vertices_of c) i j e)
         | inr h ↦
             let parts = consistent.0 h.0.0 in
-            Shortcut (record { near = near.1 h.1; points = parts.points; starts = parts.starts; ends = parts.ends; single = λ s e edge same. h.0.1 (record { start = s; end = e; edge = edge; same = same }) })
+            Shortcut (record {
+              near = near.1 h.1;
+              points = parts.points;
+              starts = parts.starts;
+              ends = parts.ends;
+              single = λ s e edge same.
+                  h.0.1 (record { start = s; end = e; edge = edge; same = same });
+            })
       ],
       λ h. elim h [
         | Neighbours e ↦ inl (neighbours (vertices_of c) i j ij (omega arith) e)
-        | Shortcut s ↦ inr ((consistent.1 (record { points = s.points; starts = s.starts; ends = s.ends }), λ double. s.single double.start double.end double.edge double.same), near.0 s.near)
+        | Shortcut s ↦ inr (
+          (
+            consistent.1 (record { points = s.points; starts = s.starts; ends = s.ends }),
+            λ double.
+                s.single double.start double.end double.edge double.same,
+          ),
+          near.0 s.near,
+        )
       ],
     )

@@ -23,7 +23,8 @@ place-number c i h = get_or-map (λ (v : Vertex). v.place) (vertices_of c) i c.f
 pub first_read : (c : Chain) (ps : List Place) (p : Place) → ps ≡ chain_places c → p ≡ get_or ps 0 p → p ≡ (vertex_at c 0).place
 first_read c ps p e read = read ∙ ap (λ (qs : List Place). get_or qs 0 p) e
 
-pub last_read : (c : Chain) (ps : List Place) (p : Place) → ps ≡ chain_places c → p ≡ get_or ps (length ps - 1) p → p ≡ (vertex_at c (length c.rest)).place
+pub last_read : (c : Chain) (ps : List Place) (p : Place) → ps ≡ chain_places c → p ≡ get_or ps (length ps - 1) p
+    → p ≡ (vertex_at c (length c.rest)).place
 last_read c ps p e read =
     let many : length ps ≡ suc (length c.rest) = ap length e ∙ length-chain_places c in
     let last : length ps - 1 ≡ length c.rest = omega arith in

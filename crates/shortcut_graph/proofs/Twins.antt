@@ -10,7 +10,8 @@ use Rattle.arc_map.specs.Ends.{AreChainsEndingAt}
 use Rattle.arc_map.specs.Paths.{vertex_at}
 use Rattle.shortcut_graph.specs.Doubles.{AreEndsOf, IsTwin, IsDoubled}
 
-pub listed_within : (chains : List Chain) (p : Place) (numbers : List ℕ) (at : ℕ) → AreChainsEndingAt chains p numbers → at < length numbers → get_or numbers at 0 < length chains
+pub listed_within : (chains : List Chain) (p : Place) (numbers : List ℕ) (at : ℕ) → AreChainsEndingAt chains p numbers → at < length numbers
+    → get_or numbers at 0 < length chains
 listed_within chains p numbers at are lt = ((are.all (get_or numbers at 0)).0 (Contains-get_or numbers at 0 lt)).0
 
 ends_second : (v : Vertex) (ws : List Vertex) (a b : Place) → v.place ∷ places ws ≡ b ∷ a ∷ [] → (end_of v ws).place ≡ a
@@ -27,14 +28,24 @@ pub record AreItsEnds (chains : List Chain) (k : ℕ) (a b : Place) : Type 0 whe
   pub first : a ≡ (vertex_at (chain_at chains k) 0).place
   pub last : b ≡ (vertex_at (chain_at chains k) (length (chain_at chains k).rest)).place
 
-pub found : (chains : List Chain) (k l : ℕ) (a b : Place) → AreItsEnds chains k a b → l < length chains → IsTwin chains k l a b → IsDoubled chains k
+pub found : (chains : List Chain) (k l : ℕ) (a b : Place) → AreItsEnds chains k a b → l < length chains → IsTwin chains k l a b
+    → IsDoubled chains k
 found chains k l a b ends within twin =
-    record { chain = l; within = within; twin = subst (λ (p : Place). IsTwin chains k l p (vertex_at (chain_at chains k) (length (chain_at chains k).rest)).place) ends.first (subst (λ (q : Place). IsTwin chains k l a q) ends.last twin) }
+    record {
+      chain = l;
+      within = within;
+      twin = subst (λ (p : Place).
+          IsTwin chains k l p (vertex_at (chain_at chains k) (length (chain_at chains k).rest)).place) ends.first
+          (subst (λ (q : Place). IsTwin chains k l a q) ends.last twin);
+    }
 
-pub none_found : (chains : List Chain) (k count : ℕ) (a b : Place) (numbers : List ℕ) → AreItsEnds chains k a b → AreChainsEndingAt chains a numbers → ((n : ℕ) → n < count → ¬ (IsTwin chains k (get_or numbers n 0) a b)) → length numbers ≤ count → ¬ (IsDoubled chains k)
+pub none_found : (chains : List Chain) (k count : ℕ) (a b : Place) (numbers : List ℕ) → AreItsEnds chains k a b
+    → AreChainsEndingAt chains a numbers → ((n : ℕ) → n < count → ¬ (IsTwin chains k (get_or numbers n 0) a b)) → length numbers ≤ count
+    → ¬ (IsDoubled chains k)
 none_found chains k count a b numbers ends are none all double =
     let l = double.chain in
-    let twin = subst (λ (p : Place). IsTwin chains k l p b) (sym ends.first) (subst (λ (q : Place). IsTwin chains k l (vertex_at (chain_at chains k) 0).place q) (sym ends.last) double.twin) in
+    let twin = subst (λ (p : Place). IsTwin chains k l p b) (sym ends.first)
+    (subst (λ (q : Place). IsTwin chains k l (vertex_at (chain_at chains k) 0).place q) (sym ends.last) double.twin) in
     let at = (are.all l).1 (double.within, ends_at (chain_at chains l) a b twin.edge) in
     let same : get_or numbers at.0 0 ≡ l = get_or_default numbers at.0 0 l at.1 ∙ at.2 in
     none at.0 (omega (arith, at.1)) (subst (λ (n : ℕ). IsTwin chains k n a b) (sym same) twin)

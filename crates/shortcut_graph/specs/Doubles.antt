@@ -27,7 +27,8 @@ pub record IsTwin (chains : List Chain) (k l : ℕ) (a b : Place) : Type 0 where
 pub record IsDoubled (chains : List Chain) (k : ℕ) : Type 0 where
   pub chain : ℕ
   pub within : chain < length chains
-  pub twin : IsTwin chains k chain (vertex_at (chain_at chains k) 0).place (vertex_at (chain_at chains k) (length (chain_at chains k).rest)).place
+  pub twin : IsTwin chains k chain (vertex_at (chain_at chains k) 0).place
+      (vertex_at (chain_at chains k) (length (chain_at chains k).rest)).place
 
 -- the pair (i, j) of the chain number k is consistent and has no double edge, so that only the bound can stand against it
 abbrev pub IsOpenPair : List Chain → List Place → ℕ → ℕ → ℕ → Type 0

@@ -1,8 +1,10 @@
 //! The ways from a vertex of a chain that keep within the bound of each vertex after it.
 //!
-//! At each vertex that it passes, such a way is at most the bound above or below it. Of all these limits only the lowest from above
-//! and the highest from below are kept, so that one vertex more, and one way more, takes the same time however many were passed.
-ghost use Rattle.std.specs.Prelude.{◌≡◌, ◌↔◌, ◌+◌, ◌<◌, ℕ, IsTrue, IsNone, true, false, length, pos, ◌+ℤ◌, ◌-ℤ◌, ◌≤ℤ◌, ◌<ℤ◌};
+//! At each vertex that it passes, such a way is at most the bound above or below it. Of all these
+//! limits only the lowest from above and the highest from below are kept, so that one vertex more,
+//! and one way more, takes the same time however many were passed.
+ghost use Rattle.std.specs.Prelude.{◌≡◌, ◌↔◌, ◌+◌, ◌<◌, ℕ, IsTrue, IsNone, true, false, length};
+ghost use Rattle.std.specs.Prelude.{pos, ◌+ℤ◌, ◌-ℤ◌, ◌≤ℤ◌, ◌<ℤ◌};
 ghost use Rattle.grid_exact.specs.Geometry.{Place, turned, IsGridNumber, IsWithin};
 ghost use Rattle.lane_kernels.specs.Places.{AreCoordinates, place_at};
 ghost use Rattle.shortcut_graph.specs.Corridor.{mirrored, seen_along, IsLowerLimit, IsUpperLimit};
@@ -31,7 +33,8 @@ pub(crate) struct Limit {
     pub(crate) vertex: usize,
 }
 
-/// The ways from an origin that keep within the bound of the vertices taken so far. All places are as seen along the heading.
+/// The ways from an origin that keep within the bound of the vertices taken so far. All places are
+/// as seen along the heading.
 #[derive(Clone, Copy)]
 pub(crate) struct Corridor {
     pub(crate) heading: Heading,
@@ -79,8 +82,8 @@ fn look(heading: Heading, place: Point) -> Point
     }
 }
 
-/// The heading of a chain: the axis along which it gets on farther, and whether it rises or falls there. A corridor is right along
-/// any heading, but lets more ways along this one.
+/// The heading of a chain: the axis along which it gets on farther, and whether it rises or falls
+/// there. A corridor is right along any heading, but lets more ways along this one.
 pub(crate) fn heading_of(ruler: &Ruler<'_>) -> Heading {
     if progress(ruler.xs) < progress(ruler.ys) {
         if is_rising(ruler.ys) {
@@ -191,13 +194,15 @@ impl Corridor {
     pub(crate) fn start(ruler: &Ruler<'_>, heading: Heading, start: usize) -> Corridor
         requires coordinates { AreCoordinates ruler.now.xs.now ruler.now.ys.now }
         requires in_lists { start < length ruler.now.xs.now }
-        ensures { IsCorridor result ruler.now.xs.now ruler.now.ys.now ruler.now.bound start (start + 1) }
+        ensures { IsCorridor result ruler.now.xs.now ruler.now.ys.now ruler.now.bound start
+            (start + 1) }
     {
         let from = point_at(ruler.xs, ruler.ys, start);
         Corridor::wide(heading, look(heading, from), start)
     }
 
-    // The corridor of all ways from an origin, the place of this vertex. Its limits are those of the grid.
+    // The corridor of all ways from an origin, the place of this vertex. Its limits are those of
+    // the grid.
     fn wide(heading: Heading, origin: Point, vertex: usize) -> Corridor
         ensures heading { result.heading ≡ heading }
         ensures origin { result.origin ≡ origin }
@@ -243,12 +248,15 @@ impl Corridor {
         }
     }
 
-    /// Takes one vertex more, the next after those taken so far. Where no way is left, nothing is taken any more.
+    /// Takes one vertex more, the next after those taken so far. Where no way is left, nothing is
+    /// taken any more.
     pub(crate) fn take(&mut self, ruler: &Ruler<'_>, vertex: usize)
         requires coordinates { AreCoordinates ruler.now.xs.now ruler.now.ys.now }
         requires in_lists { vertex < length ruler.now.xs.now }
         requires past { self.old.is_passable ≡ true → IsPastOrigin self.old }
-        ensures { (i : ℕ) → IsCorridor self.old ruler.now.xs.now ruler.now.ys.now ruler.now.bound i vertex → IsCorridor self.new ruler.now.xs.now ruler.now.ys.now ruler.now.bound i (vertex + 1) }
+        ensures { (i : ℕ) → IsCorridor self.old ruler.now.xs.now ruler.now.ys.now ruler.now.bound i
+            vertex → IsCorridor self.new ruler.now.xs.now ruler.now.ys.now ruler.now.bound i
+            (vertex + 1) }
     {
         if !self.is_passable {
             return;
@@ -256,7 +264,8 @@ impl Corridor {
         let place = look(self.heading, point_at(ruler.xs, ruler.ys, vertex));
         let more = Corridor::past(self.heading, self.origin, place, vertex, ruler.bound);
         if !more.is_passable {
-            // A vertex beside the origin or behind it stands against no way where it is within the bound of the origin.
+            // A vertex beside the origin or behind it stands against no way where it is within the
+            // bound of the origin.
             if !within(self.origin, self.origin, place, ruler.bound) {
                 self.close(vertex);
             }
@@ -316,8 +325,8 @@ impl Corridor {
         area(self.origin, self.floor.place, v) >= 0
     }
 
-    /// None where the straight way to this place keeps to the corridor, and else the vertex that is most likely too far from it. That
-    /// one may be any number, and may be near.
+    /// None where the straight way to this place keeps to the corridor, and else the vertex that is
+    /// most likely too far from it. That one may be any number, and may be near.
     pub(crate) fn culprit(&self, place: Point) -> Option<usize>
         ensures { IsNone result → KeepsTo self.now (seen_along self.now.heading place) }
     {

@@ -14,7 +14,8 @@ use grid_exact::Frame;
 use lane_kernels::point_at;
 use map_index::IndexedMap;
 
-/// How the weighted vertices of a chain run: they rise in the order of the frame throughout, or fall throughout.
+/// How the weighted vertices of a chain run: they rise in the order of the frame throughout, or
+/// fall throughout.
 #[derive(Clone, Copy)]
 pub(crate) struct Course {
     frame: Frame,
@@ -25,10 +26,13 @@ impl Course {
     /// The course of chain number `k`, of which the ruler has the coordinates.
     pub(crate) fn of(map: &IndexedMap, k: u32, ruler: &Ruler<'_>) -> Course
         requires chain { k < length map.now.chains }
-        requires weighed { AreWeighed ruler.now.weights (chain_places (chain_at map.now.chains k)) ruler.now.xs.now ruler.now.ys.now }
-        ensures { RunsAlong result.frame result.rising (place_at ruler.now.xs.now ruler.now.ys.now) (length ruler.now.xs.now) }
+        requires weighed { AreWeighed ruler.now.weights (chain_places (chain_at map.now.chains k))
+            ruler.now.xs.now ruler.now.ys.now }
+        ensures { RunsAlong result.frame result.rising (place_at ruler.now.xs.now ruler.now.ys.now)
+            (length ruler.now.xs.now) }
     {
-        // The weights are above 0, as their readers say, so the weighted vertices run along as the chain does.
+        // The weights are above 0, as their readers say, so the weighted vertices run along as the
+        // chain does.
         let _ = (ruler.weights.x(), ruler.weights.y());
         let frame = map.frame(k);
         let first = point_at(ruler.xs, ruler.ys, 0);
@@ -42,10 +46,13 @@ impl Course {
     /// The cone of the bound from the vertex `start` that has taken the next vertex.
     pub(crate) fn cone_past_next(self, ruler: &Ruler<'_>, start: usize) -> Cone
         requires coordinates { AreCoordinates ruler.now.xs.now ruler.now.ys.now }
-        requires runs { RunsAlong self.frame self.rising (place_at ruler.now.xs.now ruler.now.ys.now) (length ruler.now.xs.now) }
+        requires runs { RunsAlong self.frame self.rising
+            (place_at ruler.now.xs.now ruler.now.ys.now) (length ruler.now.xs.now) }
         requires in_lists { start + 1 < length ruler.now.xs.now }
-        ensures start { IsConeFrom result (place_at ruler.now.xs.now ruler.now.ys.now) (length ruler.now.xs.now) ruler.now.bound start }
-        ensures lets { LetsNear result (place_at ruler.now.xs.now ruler.now.ys.now) (length ruler.now.xs.now) ruler.now.bound start (start + 2) }
+        ensures start { IsConeFrom result (place_at ruler.now.xs.now ruler.now.ys.now)
+            (length ruler.now.xs.now) ruler.now.bound start }
+        ensures lets { LetsNear result (place_at ruler.now.xs.now ruler.now.ys.now)
+            (length ruler.now.xs.now) ruler.now.bound start (start + 2) }
     {
         let from = point_at(ruler.xs, ruler.ys, start);
         let mut cone = Cone::start(self.frame, self.rising, from, ruler.bound);
@@ -54,15 +61,22 @@ impl Course {
     }
 }
 
-/// Takes the vertex `end` into the cone, and answers whether that closes it: then no later vertex is near.
+/// Takes the vertex `end` into the cone, and answers whether that closes it: then no later vertex
+/// is near.
 pub(crate) fn closes(cone: &mut Cone, ruler: &Ruler<'_>, end: usize) -> bool
     requires coordinates { AreCoordinates ruler.now.xs.now ruler.now.ys.now }
     requires in_lists { end < length ruler.now.xs.now }
-    ensures start { (i : ℕ) → IsConeFrom cone.old (place_at ruler.now.xs.now ruler.now.ys.now) (length ruler.now.xs.now) ruler.now.bound i
-        → IsConeFrom cone.new (place_at ruler.now.xs.now ruler.now.ys.now) (length ruler.now.xs.now) ruler.now.bound i }
-    ensures lets { (i : ℕ) → i < end → IsConeFrom cone.old (place_at ruler.now.xs.now ruler.now.ys.now) (length ruler.now.xs.now) ruler.now.bound i
-        → LetsNear cone.old (place_at ruler.now.xs.now ruler.now.ys.now) (length ruler.now.xs.now) ruler.now.bound i end
-        → LetsNear cone.new (place_at ruler.now.xs.now ruler.now.ys.now) (length ruler.now.xs.now) ruler.now.bound i (end + 1) }
+    ensures start { (i : ℕ) → IsConeFrom cone.old (place_at ruler.now.xs.now ruler.now.ys.now)
+        (length ruler.now.xs.now) ruler.now.bound i
+        → IsConeFrom cone.new (place_at ruler.now.xs.now ruler.now.ys.now) (length ruler.now.xs.now)
+        ruler.now.bound i }
+    ensures lets { (i : ℕ) → i < end
+        → IsConeFrom cone.old (place_at ruler.now.xs.now ruler.now.ys.now) (length ruler.now.xs.now)
+        ruler.now.bound i
+        → LetsNear cone.old (place_at ruler.now.xs.now ruler.now.ys.now) (length ruler.now.xs.now)
+        ruler.now.bound i end
+        → LetsNear cone.new (place_at ruler.now.xs.now ruler.now.ys.now) (length ruler.now.xs.now)
+        ruler.now.bound i (end + 1) }
     ensures closed { IsTrue result → (v : Place) → IsPast cone.new v → ¬ (Lets cone.new v) }
 {
     cone.take(point_at(ruler.xs, ruler.ys, end));

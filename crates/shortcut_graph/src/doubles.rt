@@ -20,7 +20,8 @@ pub(crate) fn is_doubled(map: &IndexedMap, k: u32) -> bool
     false
 }
 
-// Whether the chain number `other` is another than the chain number `k`, and one edge between a and b.
+// Whether the chain number `other` is another than the chain number `k`, and one edge between a and
+// b.
 fn is_twin(map: &IndexedMap, k: u32, other: u32, a: Point, b: Point) -> bool
     requires { other < length map.now.chains }
     ensures { IsTrue result ↔ IsTwin map.now.chains k other a b }

@@ -1,5 +1,6 @@
 //! Rows of allowed pairs.
-ghost use Rattle.std.specs.Prelude.{◌≡◌, ◌≢◌, ◌⊎◌, ◌↔◌, ◌+◌, ◌<◌, ◌≤◌, ℕ, ℤ, IsTrue, false, length, slice_index_or};
+ghost use Rattle.std.specs.Prelude.{◌≡◌, ◌≢◌, ◌⊎◌, ◌↔◌, ◌+◌, ◌<◌, ◌≤◌, ℕ, ℤ, IsTrue, false, length};
+ghost use Rattle.std.specs.Prelude.{slice_index_or};
 ghost use Rattle.lane_kernels.specs.Places.{AreCoordinates, place_at};
 ghost use Rattle.layer_paths.specs.Bits.{has_bit, HasBit};
 ghost use Rattle.arc_map.specs.Chains.{chain_at, chain_places, IsClearIn, IsWithinBound};
@@ -35,11 +36,15 @@ pub fn fill(
     requires chain { k < length map.now.chains }
     requires clear { IsClearIn map.now.chains map.now.read.points k }
     requires beside { IsBeside map.now.chains map.now.read.points k beside.now }
-    requires reach { HoldsReach map.now.chains map.now.read.points k ruler.now.weights ruler.now.bound beside.now }
-    requires weighed { AreWeighed ruler.now.weights (chain_places (chain_at map.now.chains k)) ruler.now.xs.now ruler.now.ys.now }
+    requires reach { HoldsReach map.now.chains map.now.read.points k ruler.now.weights
+        ruler.now.bound beside.now }
+    requires weighed { AreWeighed ruler.now.weights (chain_places (chain_at map.now.chains k))
+        ruler.now.xs.now ruler.now.ys.now }
     requires row { length row.old ≡ length (chain_at map.now.chains k).rest + 1 }
     ensures { (i j : ℕ) → i < j → j ≤ length (chain_at map.now.chains k).rest
-        → (HasBit rows.new i j ↔ IsAllowedPair (IsWithinBound ruler.now.weights.x ruler.now.weights.y ruler.now.bound) map.now.chains map.now.read.points k i j) }
+        → (HasBit rows.new i j
+        ↔ IsAllowedPair (IsWithinBound ruler.now.weights.x ruler.now.weights.y ruler.now.bound)
+        map.now.chains map.now.read.points k i j) }
 {
     let last = map.chain(k).len() - 1;
     let heading = heading_of(ruler);
@@ -59,9 +64,14 @@ fn mark_open(map: &IndexedMap, k: u32, beside: &Beside, start: usize, row: &mut 
     requires beside { IsBeside map.now.chains map.now.read.points k beside.now }
     requires start { start < length (chain_at map.now.chains k).rest }
     requires row { length row.old ≡ length (chain_at map.now.chains k).rest + 1 }
-    ensures opens { (j : ℕ) → start < j → j < length row.new → IsOpenPair map.now.chains map.now.read.points k start j → IsTrue (slice_index_or row.new j false) }
-    ensures near { (weights : Scales) (bound : ℤ) → HoldsReach map.now.chains map.now.read.points k weights bound beside.now
-        → (j : ℕ) → start < j → j < length row.new → IsTrue (slice_index_or row.new j false) → IsNearPair weights bound (chain_at map.now.chains k) start j → IsOpenPair map.now.chains map.now.read.points k start j }
+    ensures opens { (j : ℕ) → start < j → j < length row.new
+        → IsOpenPair map.now.chains map.now.read.points k start j
+        → IsTrue (slice_index_or row.new j false) }
+    ensures near { (weights : Scales) (bound : ℤ)
+        → HoldsReach map.now.chains map.now.read.points k weights bound beside.now
+        → (j : ℕ) → start < j → j < length row.new → IsTrue (slice_index_or row.new j false)
+        → IsNearPair weights bound (chain_at map.now.chains k) start j
+        → IsOpenPair map.now.chains map.now.read.points k start j }
     ensures length { length row.new ≡ length row.old }
 {
     let last = map.chain(k).len() - 1;
@@ -85,8 +95,10 @@ fn allows(
     requires count { length is_open.now ≡ length ruler.now.xs.now }
     requires order { start < end }
     requires within { end < length is_open.now }
-    requires corridor { IsCorridor corridor.now ruler.now.xs.now ruler.now.ys.now ruler.now.bound start end }
-    ensures { IsTrue result ↔ (IsTrue (slice_index_or is_open.now end false) × IsNearRun ruler.now.xs.now ruler.now.ys.now ruler.now.bound start end) }
+    requires corridor { IsCorridor corridor.now ruler.now.xs.now ruler.now.ys.now ruler.now.bound
+        start end }
+    ensures { IsTrue result ↔ (IsTrue (slice_index_or is_open.now end false)
+        × IsNearRun ruler.now.xs.now ruler.now.ys.now ruler.now.bound start end) }
 {
     is_open[end] && is_near(ruler, start, end, corridor)
 }
@@ -106,11 +118,16 @@ fn set_row(
     requires count { length is_open.now ≡ length ruler.now.xs.now }
     requires size { length is_open.now ≤ 1024 }
     requires start { start + 1 < length is_open.now }
-    requires cone { IsConeFrom cone (place_at ruler.now.xs.now ruler.now.ys.now) (length ruler.now.xs.now) ruler.now.bound start }
-    requires lets { LetsNear cone (place_at ruler.now.xs.now ruler.now.ys.now) (length ruler.now.xs.now) ruler.now.bound start (start + 2) }
+    requires cone { IsConeFrom cone (place_at ruler.now.xs.now ruler.now.ys.now)
+        (length ruler.now.xs.now) ruler.now.bound start }
+    requires lets { LetsNear cone (place_at ruler.now.xs.now ruler.now.ys.now)
+        (length ruler.now.xs.now) ruler.now.bound start (start + 2) }
     ensures row { (j : ℕ) → start < j → j < length is_open.now
-        → (HasBit rows.new start j ↔ ((j ≡ start + 1) ⊎ (IsTrue (slice_index_or is_open.now j false) × IsNearRun ruler.now.xs.now ruler.now.ys.now ruler.now.bound start j))) }
-    ensures others { (i j : ℕ) → i < 1024 → j < 1024 → i ≢ start → has_bit rows.new i j ≡ has_bit rows.old i j }
+        → (HasBit rows.new start j
+        ↔ ((j ≡ start + 1) ⊎ (IsTrue (slice_index_or is_open.now j false)
+        × IsNearRun ruler.now.xs.now ruler.now.ys.now ruler.now.bound start j))) }
+    ensures others { (i j : ℕ) → i < 1024 → j < 1024 → i ≢ start
+        → has_bit rows.new i j ≡ has_bit rows.old i j }
 {
     rows.clear_row(start);
     rows.set(start, start + 1, true);

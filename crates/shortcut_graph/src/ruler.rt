@@ -9,8 +9,8 @@ use error_band::near_run;
 use grid_exact::{Bound, Weights, within};
 use lane_kernels::point_at;
 
-/// The coordinates of a chain's vertices, each times the weight of its axis, with the bound and the weights. All numbers are
-/// in grid units.
+/// The coordinates of a chain's vertices, each times the weight of its axis, with the bound and the
+/// weights. All numbers are in grid units.
 #[derive(Clone, Copy)]
 pub struct Ruler<'a> {
     /// the coordinates across, each times the weight across
@@ -23,13 +23,15 @@ pub struct Ruler<'a> {
     pub weights: Weights,
 }
 
-// Whether each vertex strictly between i and j is within the bound of the segment between these two. The corridor from i stands
-// for the vertices between. Where it is left, the vertex that it names is nearly always too far, so this one is looked at first.
+// Whether each vertex strictly between i and j is within the bound of the segment between these
+// two. The corridor from i stands for the vertices between. Where it is left, the vertex that it
+// names is nearly always too far, so this one is looked at first.
 pub(crate) fn is_near(ruler: &Ruler<'_>, i: usize, j: usize, corridor: &Corridor) -> bool
     requires coordinates { AreCoordinates ruler.now.xs.now ruler.now.ys.now }
     requires forwards { i < j }
     requires in_lists { j < length ruler.now.xs.now }
-    requires corridor { IsCorridor corridor.now ruler.now.xs.now ruler.now.ys.now ruler.now.bound i j }
+    requires corridor { IsCorridor corridor.now ruler.now.xs.now ruler.now.ys.now ruler.now.bound i
+        j }
     ensures { IsTrue result ↔ IsNearRun ruler.now.xs.now ruler.now.ys.now ruler.now.bound i j }
 {
     match corridor.culprit(point_at(ruler.xs, ruler.ys, j)) {
@@ -48,7 +50,8 @@ fn is_near_with(ruler: &Ruler<'_>, i: usize, j: usize, culprit: usize) -> bool
     !is_far(ruler, i, j, culprit) && near_run(ruler.xs, ruler.ys, i, j, ruler.bound)
 }
 
-// Whether the vertex k is strictly between i and j and not within the bound of the segment between these two.
+// Whether the vertex k is strictly between i and j and not within the bound of the segment between
+// these two.
 fn is_far(ruler: &Ruler<'_>, i: usize, j: usize, k: usize) -> bool
     requires coordinates { AreCoordinates ruler.now.xs.now ruler.now.ys.now }
     requires in_lists { j < length ruler.now.xs.now }

@@ -37,7 +37,11 @@ in_box_or_beyond low high p chain all =
                   | inl south ↦
                       elim (at_most_or_above p.y high.y) [
                         | inr out ↦ inr (North (λ k d within. let north = (all k d within).to_high.up in omega (arith, sums)))
-                        | inl north ↦ inl (record { from_low = record { across = west; up = south }; to_high = record { across = east; up = north } })
+                        | inl north ↦ inl (record {
+                          from_low = record { across = west; up = south };
+                          to_high =
+                              record { across = east; up = north };
+                        })
                       ]
                 ]
           ]

@@ -29,23 +29,30 @@ end_is_vertex v (w ∷ ws) c d (inl e) = (1, omega arith, ap (λ (x : Vertex). x
 end_is_vertex v (w ∷ ws) c d (inr e) = has_later v.place (w.place ∷ places ws) d.place (end_is_vertex w ws c d e)
 
 -- a chain past the list has no edge
-chain_inside : (chains : List Chain) (l : ℕ) (c d : Vertex) → IsEdgeOf (chain_at chains l).first (chain_at chains l).rest c d → l < length chains
+chain_inside : (chains : List Chain) (l : ℕ) (c d : Vertex) → IsEdgeOf (chain_at chains l).first (chain_at chains l).rest c d
+    → l < length chains
 chain_inside chains l c d edge =
     elim (cases_lt l (length chains)) [
       | inl less ↦ less
       | inr past ↦ absurd (subst (λ (x : Chain). IsEdgeOf x.first x.rest c d) (get_or_past chains l no_chain past) edge)
     ]
 
-obstacle_at_start : (chains : List Chain) (points : List Place) (k : ℕ) (c d : Vertex) → IsOtherEdge chains k c d → IsObstacle chains points k c.place
-obstacle_at_start chains points k c d h = OfOther h.chain (chain_inside chains h.chain c d h.edge) h.other (start_is_vertex (chain_at chains h.chain).first (chain_at chains h.chain).rest c d h.edge)
+obstacle_at_start : (chains : List Chain) (points : List Place) (k : ℕ) (c d : Vertex) → IsOtherEdge chains k c d
+    → IsObstacle chains points k c.place
+obstacle_at_start chains points k c d h = OfOther h.chain (chain_inside chains h.chain c d h.edge) h.other
+    (start_is_vertex (chain_at chains h.chain).first (chain_at chains h.chain).rest c d h.edge)
 
-obstacle_at_end : (chains : List Chain) (points : List Place) (k : ℕ) (c d : Vertex) → IsOtherEdge chains k c d → IsObstacle chains points k d.place
-obstacle_at_end chains points k c d h = OfOther h.chain (chain_inside chains h.chain c d h.edge) h.other (end_is_vertex (chain_at chains h.chain).first (chain_at chains h.chain).rest c d h.edge)
+obstacle_at_end : (chains : List Chain) (points : List Place) (k : ℕ) (c d : Vertex) → IsOtherEdge chains k c d
+    → IsObstacle chains points k d.place
+obstacle_at_end chains points k c d h = OfOther h.chain (chain_inside chains h.chain c d h.edge) h.other
+    (end_is_vertex (chain_at chains h.chain).first (chain_at chains h.chain).rest c d h.edge)
 
 -- ---- both ways
 
 -- what the parts say of an obstacle
-by_parts : (chains : List Chain) (points : List Place) (k : ℕ) (v : Vertex) (skipped : List Vertex) (w : Vertex) (p : Place) → All (λ chain. 0 < length chain.rest) chains → AreConsistent (IsOtherEdge chains k) (Contains points) v skipped w → IsObstacle chains points k p → IsConsistent v.place w.place (places skipped) p
+by_parts : (chains : List Chain) (points : List Place) (k : ℕ) (v : Vertex) (skipped : List Vertex) (w : Vertex) (p : Place)
+    → All (λ chain. 0 < length chain.rest) chains → AreConsistent (IsOtherEdge chains k) (Contains points) v skipped w
+    → IsObstacle chains points k p → IsConsistent v.place w.place (places skipped) p
 by_parts chains points k v skipped w p edges parts (Town has) = parts.points p has
 by_parts chains points k v skipped w p edges parts (OfOther l within other has) =
     let end = end_of_vertex (chain_at chains l) p (edges l no_chain within) has in

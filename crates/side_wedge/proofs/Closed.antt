@@ -67,11 +67,13 @@ hand_from_side Turned false Right Left e = cc
 
 -- ---- walks
 
-pub each_by_edges : (P : Place → Place → Type 0) (v : Place) (ws : List Place) → ((a b : Place) → IsEdgeOf v ws a b → P a b) → EachEdge P v ws
+pub each_by_edges : (P : Place → Place → Type 0) (v : Place) (ws : List Place) → ((a b : Place) → IsEdgeOf v ws a b → P a b)
+    → EachEdge P v ws
 each_by_edges P v [] h = tt
 each_by_edges P v (w ∷ ws) h = (h v w (inl (refl, refl)), each_by_edges P w ws (λ a b e. h a b (inr e)))
 
-and_back : (P : Place → Place → Type 0) (v : Place) (skipped : List Place) (w x : Place) → EachEdge P v (skipped ++ w ∷ []) → P w x → EachEdge P v (skipped ++ w ∷ x ∷ [])
+and_back : (P : Place → Place → Type 0) (v : Place) (skipped : List Place) (w x : Place) → EachEdge P v (skipped ++ w ∷ []) → P w x
+    → EachEdge P v (skipped ++ w ∷ x ∷ [])
 and_back P v [] w x h last = (h.0, (last, tt))
 and_back P v (k ∷ ks) w x h last = (h.0, and_back P k ks w x h.1 last)
 
@@ -87,9 +89,11 @@ not_before frame rising a b h k = one_way frame rising a b h k
 
 -- ---- a run from v over the skipped places to w
 
-run_rises : (frame : Frame) (rising : Bool) (v : Place) (skipped : List Place) (w : Place) → EachEdge (IsAlong frame rising) v (skipped ++ w ∷ []) → IsAlong frame rising v w
+run_rises : (frame : Frame) (rising : Bool) (v : Place) (skipped : List Place) (w : Place)
+    → EachEdge (IsAlong frame rising) v (skipped ++ w ∷ []) → IsAlong frame rising v w
 run_rises frame rising v [] w way = way.0
-run_rises frame rising v (k ∷ ks) w way = subst (λ (x : Place). IsAlong frame rising v x) (end_of-pushed k ks w) (ends_rise frame rising v k (ks ++ w ∷ []) way)
+run_rises frame rising v (k ∷ ks) w way = subst (λ (x : Place). IsAlong frame rising v x) (end_of-pushed k ks w)
+    (ends_rise frame rising v k (ks ++ w ∷ []) way)
 
 -- before or behind the run
 outside_of : (frame : Frame) (rising : Bool) (v w p : Place) → IsPassed frame rising p v w → IsOutside frame v w p
@@ -98,23 +102,33 @@ outside_of frame true v w p (Behind h k) = OutsideAfter h k
 outside_of frame false v w p (Ahead h k) = OutsideAfter h k
 outside_of frame false v w p (Behind h k) = OutsideBefore h k
 
-passed_consistent : (frame : Frame) (rising : Bool) (v : Place) (skipped : List Place) (w p : Place) → EachEdge (IsAlong frame rising) v (skipped ++ w ∷ []) → IsPassed frame rising p v w → IsConsistent v w skipped p
+passed_consistent : (frame : Frame) (rising : Bool) (v : Place) (skipped : List Place) (w p : Place)
+    → EachEdge (IsAlong frame rising) v (skipped ++ w ∷ []) → IsPassed frame rising p v w → IsConsistent v w skipped p
 passed_consistent frame rising v skipped w p way passed =
-    let out : IsOutside frame v (end_of v (skipped ++ w ∷ [])) p = subst (λ (x : Place). IsOutside frame v x p) (sym (end_of-pushed v skipped w)) (outside_of frame rising v w p passed) in
+    let out : IsOutside frame v (end_of v (skipped ++ w ∷ [])) p =
+    subst (λ (x : Place). IsOutside frame v x p) (sym (end_of-pushed v skipped w)) (outside_of frame rising v w p passed) in
     let even = (outside_is_even frame v (skipped ++ w ∷ []) p (monotone_of frame rising v (skipped ++ w ∷ []) way) out).1 in
-    SameSide (passed_off frame rising p v w passed) (subst (λ (ws : List Place). is_odd (count_edges (is_crossed p) v ws) ≡ false) (append_assoc skipped (w ∷ []) (v ∷ [])) even)
+    SameSide (passed_off frame rising p v w passed) (subst (λ (ws : List Place). is_odd (count_edges (is_crossed p) v ws) ≡ false)
+    (append_assoc skipped (w ∷ []) (v ∷ [])) even)
 
-pub before_consistent : (frame : Frame) (rising : Bool) (v : Place) (skipped : List Place) (w p : Place) → EachEdge (IsAlong frame rising) v (skipped ++ w ∷ []) → IsAlong frame rising p v → IsConsistent v w skipped p
-before_consistent frame rising v skipped w p way h = passed_consistent frame rising v skipped w p way (Ahead h (then_along frame rising p v w h (run_rises frame rising v skipped w way)))
+pub before_consistent : (frame : Frame) (rising : Bool) (v : Place) (skipped : List Place) (w p : Place)
+    → EachEdge (IsAlong frame rising) v (skipped ++ w ∷ []) → IsAlong frame rising p v → IsConsistent v w skipped p
+before_consistent frame rising v skipped w p way h = passed_consistent frame rising v skipped w p way
+    (Ahead h (then_along frame rising p v w h (run_rises frame rising v skipped w way)))
 
-pub behind_consistent : (frame : Frame) (rising : Bool) (v : Place) (skipped : List Place) (w p : Place) → EachEdge (IsAlong frame rising) v (skipped ++ w ∷ []) → IsAlong frame rising w p → IsConsistent v w skipped p
-behind_consistent frame rising v skipped w p way h = passed_consistent frame rising v skipped w p way (Behind (then_along frame rising v w p (run_rises frame rising v skipped w way) h) h)
+pub behind_consistent : (frame : Frame) (rising : Bool) (v : Place) (skipped : List Place) (w p : Place)
+    → EachEdge (IsAlong frame rising) v (skipped ++ w ∷ []) → IsAlong frame rising w p → IsConsistent v w skipped p
+behind_consistent frame rising v skipped w p way h = passed_consistent frame rising v skipped w p way
+    (Behind (then_along frame rising v w p (run_rises frame rising v skipped w way) h) h)
 
 -- ---- between the ends of the run
 
-told : (frame : Frame) (rising : Bool) (v : Place) (ws : List Place) (p a b : Place) → IsEdgeOf v ws a b → IsAlong frame rising a p → IsAlong frame rising p b → (side : Side) → IsSideOfLine frame rising a b p side → IsSideOf frame v ws p side
-told frame true v ws p a b edge ap' pb side h = told_rising frame v ws p a b edge (not_before frame true a p ap') (not_before frame true p b pb) side h
-told frame false v ws p a b edge ap' pb side h = told_falling frame v ws p a b edge (not_before frame false a p ap') (not_before frame false p b pb) side h
+told : (frame : Frame) (rising : Bool) (v : Place) (ws : List Place) (p a b : Place) → IsEdgeOf v ws a b → IsAlong frame rising a p
+    → IsAlong frame rising p b → (side : Side) → IsSideOfLine frame rising a b p side → IsSideOf frame v ws p side
+told frame true v ws p a b edge ap' pb side h = told_rising frame v ws p a b edge (not_before frame true a p ap')
+    (not_before frame true p b pb) side h
+told frame false v ws p a b edge ap' pb side h = told_falling frame v ws p a b edge (not_before frame false a p ap')
+    (not_before frame false p b pb) side h
 
 -- p is over the edge ab of the run from v over the skipped places to w, on this hand of it
 pub record IsOverRun (frame : Frame) (rising : Bool) (v : Place) (skipped : List Place) (w p a b : Place) (hand : Hand) : Type 0 where
@@ -126,31 +140,43 @@ pub record IsOverRun (frame : Frame) (rising : Bool) (v : Place) (skipped : List
   pub past : IsAlong frame rising v p
   pub before : IsAlong frame rising p w
 
-off_run : (frame : Frame) (rising : Bool) (v : Place) (skipped : List Place) (w p a b : Place) (hand : Hand) → IsOverRun frame rising v skipped w p a b hand → EachEdge (IsOffSegment p) v (skipped ++ w ∷ [])
+off_run : (frame : Frame) (rising : Bool) (v : Place) (skipped : List Place) (w p a b : Place) (hand : Hand)
+    → IsOverRun frame rising v skipped w p a b hand → EachEdge (IsOffSegment p) v (skipped ++ w ∷ [])
 off_run frame rising v skipped w p a b hand over =
     each_by_edges (IsOffSegment p) v (skipped ++ w ∷ []) (λ c d e on.
     elim (others_passed frame rising p v (skipped ++ w ∷ []) a b c d over.way over.edge over.start over.end e) [
-      | inl same ↦ on_hand_off hand a b p over.on_hand (subst (λ (x : Place). IsOnSegment x b p) same.0 (subst (λ (y : Place). IsOnSegment c y p) same.1 on))
+      | inl same ↦ on_hand_off hand a b p over.on_hand (subst (λ (x : Place). IsOnSegment x b p) same.0
+          (subst (λ (y : Place). IsOnSegment c y p) same.1 on))
       | inr passed ↦ passed_off frame rising p c d passed on
     ])
 
 -- the run and the segment have p on one hand exactly where the closed walk is crossed an even number of times
-hands_tell : (frame : Frame) (rising : Bool) (v : Place) (skipped : List Place) (w p a b : Place) (hand other : Hand) → IsOverRun frame rising v skipped w p a b hand → IsOnSide other v w p → (side_of frame rising hand ≡ side_of frame rising other) ↔ (is_odd (count_edges (is_crossed p) v (skipped ++ w ∷ v ∷ [])) ≡ false)
+hands_tell : (frame : Frame) (rising : Bool) (v : Place) (skipped : List Place) (w p a b : Place) (hand other : Hand)
+    → IsOverRun frame rising v skipped w p a b hand → IsOnSide other v w p → (side_of frame rising hand ≡ side_of frame rising other)
+    ↔ (is_odd (count_edges (is_crossed p) v (skipped ++ w ∷ v ∷ [])) ≡ false)
 hands_tell frame rising v skipped w p a b hand other over on =
     sides_tell_crossings frame v w skipped p (side_of frame rising hand) (side_of frame rising other)
     (monotone_of frame rising v (skipped ++ w ∷ []) over.way)
-    (and_back (IsOffSegment p) v skipped w v (off_run frame rising v skipped w p a b hand over) (λ back. on_hand_off other v w p on (on_turned w v p back)))
-    (told frame rising v (skipped ++ w ∷ []) p a b over.edge over.start over.end (side_of frame rising hand) ((side_of_hand frame rising hand a b p).0 over.on_hand))
-    (told frame rising v (w ∷ []) p v w (inl (refl, refl)) over.past over.before (side_of frame rising other) ((side_of_hand frame rising other v w p).0 on))
+    (and_back (IsOffSegment p) v skipped w v (off_run frame rising v skipped w p a b hand over) (λ back.
+    on_hand_off other v w p on (on_turned w v p back)))
+    (told frame rising v (skipped ++ w ∷ []) p a b over.edge over.start over.end (side_of frame rising hand)
+    ((side_of_hand frame rising hand a b p).0 over.on_hand))
+    (told frame rising v (w ∷ []) p v w (inl (refl, refl)) over.past over.before (side_of frame rising other)
+    ((side_of_hand frame rising other v w p).0 on))
 
-pub consistent_by_hand : (frame : Frame) (rising : Bool) (v : Place) (skipped : List Place) (w p a b : Place) (hand : Hand) → IsOverRun frame rising v skipped w p a b hand → IsOnSide hand v w p → IsConsistent v w skipped p
-consistent_by_hand frame rising v skipped w p a b hand over on = SameSide (on_hand_off hand v w p on) ((hands_tell frame rising v skipped w p a b hand hand over on).0 refl)
+pub consistent_by_hand : (frame : Frame) (rising : Bool) (v : Place) (skipped : List Place) (w p a b : Place) (hand : Hand)
+    → IsOverRun frame rising v skipped w p a b hand → IsOnSide hand v w p → IsConsistent v w skipped p
+consistent_by_hand frame rising v skipped w p a b hand over on =
+    SameSide (on_hand_off hand v w p on) ((hands_tell frame rising v skipped w p a b hand hand over on).0 refl)
 
-pub hand_by_consistent : (frame : Frame) (rising : Bool) (v : Place) (skipped : List Place) (w p a b : Place) (hand : Hand) → IsOverRun frame rising v skipped w p a b hand → IsConsistent v w skipped p → IsOnSide hand v w p
+pub hand_by_consistent : (frame : Frame) (rising : Bool) (v : Place) (skipped : List Place) (w p a b : Place) (hand : Hand)
+    → IsOverRun frame rising v skipped w p a b hand → IsConsistent v w skipped p → IsOnSide hand v w p
 hand_by_consistent frame rising v skipped w p a b hand over (AtStart e) = absurd (not_itself frame rising v p (sym e) over.past)
 hand_by_consistent frame rising v skipped w p a b hand over (AtEnd e) = absurd (not_itself frame rising p w e over.before)
 hand_by_consistent frame rising v skipped w p a b hand over (SameSide off even) =
     elim (hand_of_place v w p) [
-      | OnHand other on ↦ subst (λ (h : Hand). IsOnSide h v w p) (sym (hand_from_side frame rising hand other ((hands_tell frame rising v skipped w p a b hand other over on).1 even))) on
-      | OnLine flat ↦ absurd (off (on_along frame rising v w p (not_before frame rising v p over.past) (not_before frame rising p w over.before) flat))
+      | OnHand other on ↦ subst (λ (h : Hand). IsOnSide h v w p)
+          (sym (hand_from_side frame rising hand other ((hands_tell frame rising v skipped w p a b hand other over on).1 even))) on
+      | OnLine flat ↦ absurd (off (on_along frame rising v w p (not_before frame rising v p over.past)
+          (not_before frame rising p w over.before) flat))
     ]

@@ -1,5 +1,6 @@
 -- Strays that are found among items.
-use Rattle.std.proofs.Common.{◌≡◌, ◌⊎◌, inl, inr, ℕ, ◌+◌, ◌-◌, ◌<◌, ◌≤◌, Bool, List, [], ◌∷◌, ◌++◌, length, take, drop, Option, None, Some, IfSome, option_to_list, pos, sym, ap, ◌∙◌, subst, arith}
+use Rattle.std.proofs.Common.{◌≡◌, ◌⊎◌, inl, inr, ℕ, ◌+◌, ◌-◌, ◌<◌, ◌≤◌, Bool, List, [], ◌∷◌, ◌++◌, length, take, drop, Option, None, Some}
+use Rattle.std.proofs.Common.{IfSome, option_to_list, pos, sym, ap, ◌∙◌, subst, arith}
 use Rattle.std.proofs.Common.{length-append}
 use Rattle.std.specs.Prelude.{Contains, All}
 use Rattle.std.proofs.lemmas.Bool.{cases_lt}
@@ -28,36 +29,52 @@ use Rattle.side_wedge.proofs.Boxed.{in_box_or_beyond, in_box_tested}
 -- ---- at an end
 
 -- what is at an end of the chain is over no edge
-pub at_end_over : (frame : Frame) (rising : Bool) (chain : List Place) (p : Place) (s : ℕ) → RunsAlong frame rising chain → IsOverEdge frame rising chain p s → (p ≡ vertex_at chain 0) ⊎ (p ≡ vertex_at chain (length chain - 1)) → ⊥
+pub at_end_over : (frame : Frame) (rising : Bool) (chain : List Place) (p : Place) (s : ℕ) → RunsAlong frame rising chain
+    → IsOverEdge frame rising chain p s → (p ≡ vertex_at chain 0) ⊎ (p ≡ vertex_at chain (length chain - 1)) → ⊥
 at_end_over frame rising chain p s runs over (inl e) =
     let inside = over.in_chain in
-    not_itself frame rising (vertex_at chain 0) p (sym e) (after_earlier frame rising chain p 0 s runs (omega arith) (omega arith) over.start)
+    not_itself frame rising (vertex_at chain 0) p (sym e) (after_earlier frame rising chain p 0 s runs (omega arith) (omega arith)
+    over.start)
 at_end_over frame rising chain p s runs over (inr e) =
     let inside = over.in_chain in
-    not_itself frame rising p (vertex_at chain (length chain - 1)) e (before_later frame rising chain p (s + 1) (length chain - 1) runs (omega arith) (omega arith) over.end)
+    not_itself frame rising p (vertex_at chain (length chain - 1)) e
+    (before_later frame rising chain p (s + 1) (length chain - 1) runs (omega arith) (omega arith) over.end)
 
 -- ---- one item more
 
-from_more : (frame : Frame) (rising : Bool) (chain : List Place) (k : ℕ) (seen : List (ℕ × Item)) (e : ℕ × Item) (x : Stray) → IsFrom frame rising chain k seen x → IsFrom frame rising chain k (seen ++ e ∷ []) x
-from_more frame rising chain k seen e x h = record { number = h.number; item = h.item; found_item = Contains-append_left seen (e ∷ []) (h.number, h.item) h.found_item; is = h.is }
+from_more : (frame : Frame) (rising : Bool) (chain : List Place) (k : ℕ) (seen : List (ℕ × Item)) (e : ℕ × Item) (x : Stray)
+    → IsFrom frame rising chain k seen x → IsFrom frame rising chain k (seen ++ e ∷ []) x
+from_more frame rising chain k seen e x h = record {
+  number = h.number;
+  item = h.item;
+  found_item =
+      Contains-append_left seen (e ∷ []) (h.number, h.item) h.found_item;
+  is = h.is;
+}
 
 -- what is known of the stray that an item is, if it is one
-pub record IsAnswer (frame : Frame) (rising : Bool) (chain : List Place) (k : ℕ) (steps : Steps) (part : List Place) (item : Item) (found : Option Stray) : Type 0 where
+pub record IsAnswer (frame : Frame) (rising : Bool) (chain : List Place) (k : ℕ) (steps : Steps) (part : List Place) (item : Item) (found :
+    Option Stray) : Type 0 where
   pub some : IfSome found (IsStrayOf frame rising chain k item)
-  pub all : (s : ℕ) (hand : Hand) → RunsAlong frame rising chain → IsStrayItem frame rising chain k item s hand → IsNearSomeEdge steps part item.at → found ≡ Some (stray s hand item.at)
+  pub all : (s : ℕ) (hand : Hand) → RunsAlong frame rising chain → IsStrayItem frame rising chain k item s hand
+      → IsNearSomeEdge steps part item.at → found ≡ Some (stray s hand item.at)
 
 -- the item that is told by a pair
 other_item : (e f : ℕ × Item) (P : Item → Type 0) → e ≡ f → P f.1 → P e.1
 other_item e f P same h = subst (λ (z : ℕ × Item). P z.1) (sym same) h
 
-pub strays_start : (frame : Frame) (rising : Bool) (chain : List Place) (k : ℕ) (steps : Steps) (part : List Place) (before : List Stray) → AreStraysOf frame rising chain k steps part before [] before
+pub strays_start : (frame : Frame) (rising : Bool) (chain : List Place) (k : ℕ) (steps : Steps) (part : List Place) (before : List Stray)
+    → AreStraysOf frame rising chain k steps part before [] before
 strays_start frame rising chain k steps part before = record {
   only = λ x has. inl has;
   kept = λ x has. has;
   all = λ n item s hand has runs is near. absurd (omega (arith, has.1));
 }
 
-pub strays_more : (frame : Frame) (rising : Bool) (chain : List Place) (k : ℕ) (steps : Steps) (part : List Place) (before : List Stray) (seen : List (ℕ × Item)) (strays new : List Stray) (n : ℕ) (item : Item) (found : Option Stray) → AreStraysOf frame rising chain k steps part before seen strays → IsAnswer frame rising chain k steps part item found → new ≡ strays ++ option_to_list found → AreStraysOf frame rising chain k steps part before (seen ++ (n, item) ∷ []) new
+pub strays_more : (frame : Frame) (rising : Bool) (chain : List Place) (k : ℕ) (steps : Steps) (part : List Place) (before : List Stray)
+    (seen : List (ℕ × Item)) (strays new : List Stray) (n : ℕ) (item : Item) (found : Option Stray)
+    → AreStraysOf frame rising chain k steps part before seen strays → IsAnswer frame rising chain k steps part item found
+    → new ≡ strays ++ option_to_list found → AreStraysOf frame rising chain k steps part before (seen ++ (n, item) ∷ []) new
 strays_more frame rising chain k steps part before seen strays new n item None h a e =
     let same : new ≡ strays = e ∙ append-nil strays in
     record {
@@ -69,8 +86,11 @@ strays_more frame rising chain k steps part before seen strays new n item None h
       kept = λ x has. subst (λ (xs : List Stray). Contains xs x) (sym same) (h.kept x has);
       all = λ m other s hand has runs is near.
           elim (Contains-push_cases seen (n, item) (m, other) has) [
-            | inl early ↦ subst (λ (xs : List Stray). Contains xs (stray s hand other.at)) (sym same) (h.all m other s hand early runs is near)
-            | inr now ↦ absurd (none (a.all s hand runs (other_item (n, item) (m, other) (λ z. IsStrayItem frame rising chain k z s hand) now is) (other_item (n, item) (m, other) (λ z. IsNearSomeEdge steps part z.at) now near)))
+            | inl early ↦ subst (λ (xs : List Stray). Contains xs (stray s hand other.at)) (sym same)
+                (h.all m other s hand early runs is near)
+            | inr now ↦ absurd
+                (none (a.all s hand runs (other_item (n, item) (m, other) (λ z. IsStrayItem frame rising chain k z s hand) now is)
+                (other_item (n, item) (m, other) (λ z. IsNearSomeEdge steps part z.at) now near)))
           ];
     }
   where
@@ -85,7 +105,13 @@ strays_more frame rising chain k steps part before seen strays new n item (Some 
                   | inl first ↦ inl first
                   | inr f ↦ inr (from_more frame rising chain k seen (n, item) x f)
                 ]
-            | inr now ↦ inr (record { number = n; item = item; found_item = Contains-push seen (n, item); is = subst (IsStrayOf frame rising chain k item) now a.some })
+            | inr now ↦ inr (record {
+              number = n;
+              item = item;
+              found_item = Contains-push seen (n, item);
+              is =
+                  subst (IsStrayOf frame rising chain k item) now a.some;
+            })
           ];
       kept = λ x has. subst (λ (xs : List Stray). Contains xs x) (sym e) (Contains-append_left strays (y ∷ []) x (h.kept x has));
       all = λ m other s hand has runs is near.
@@ -93,7 +119,9 @@ strays_more frame rising chain k steps part before seen strays new n item (Some 
           (elim (Contains-push_cases seen (n, item) (m, other) has) [
             | inl early ↦ Contains-append_left strays (y ∷ []) (stray s hand other.at) (h.all m other s hand early runs is near)
             | inr now ↦
-                let here : y ≡ stray s hand other.at = told (n, item) (m, other) s hand now (a.all s hand runs (other_item (n, item) (m, other) (λ z. IsStrayItem frame rising chain k z s hand) now is) (other_item (n, item) (m, other) (λ z. IsNearSomeEdge steps part z.at) now near)) in
+                let here : y ≡ stray s hand other.at = told (n, item) (m, other) s hand now
+                (a.all s hand runs (other_item (n, item) (m, other) (λ z. IsStrayItem frame rising chain k z s hand) now is)
+                (other_item (n, item) (m, other) (λ z. IsNearSomeEdge steps part z.at) now near)) in
                 subst (λ (x : Stray). Contains (strays ++ y ∷ []) x) here (Contains-push strays y)
           ]);
     }
@@ -103,19 +131,25 @@ strays_more frame rising chain k steps part before seen strays new n item (Some 
         let first : y ≡ stray s hand e.1.at = cc in
         first ∙ ap (λ (z : ℕ × Item). stray s hand z.1.at) now
 
-one_more : (strays new : List Stray) (found : Option Stray) (n : ℕ) → new ≡ strays ++ option_to_list found → length strays ≤ n → length new ≤ n + 1
+one_more : (strays new : List Stray) (found : Option Stray) (n : ℕ) → new ≡ strays ++ option_to_list found → length strays ≤ n
+    → length new ≤ n + 1
 one_more strays new None n e h = let same = ap length e in omega (arith, same, length-append strays (option_to_list {X = Stray} None))
 one_more strays new (Some x) n e h = let same = ap length e in omega (arith, same, length-append strays (x ∷ []))
 
 -- what is left of the walk, behind one item more
-pub one_behind : (all seen left rest : List (ℕ × Item)) (e : ℕ × Item) → all ≡ seen ++ left → left ≡ e ∷ rest → all ≡ (seen ++ e ∷ []) ++ rest
-one_behind all seen left rest e so_far step = so_far ∙ ap (λ (xs : List (ℕ × Item)). seen ++ xs) step ∙ sym (append_assoc seen (e ∷ []) rest)
+pub one_behind : (all seen left rest : List (ℕ × Item)) (e : ℕ × Item) → all ≡ seen ++ left → left ≡ e ∷ rest
+    → all ≡ (seen ++ e ∷ []) ++ rest
+one_behind all seen left rest e so_far step = so_far ∙ ap (λ (xs : List (ℕ × Item)). seen ++ xs) step
+    ∙ sym (append_assoc seen (e ∷ []) rest)
 
-pub one_counted : (strays new : List Stray) (found : Option Stray) (seen : List (ℕ × Item)) (e : ℕ × Item) (old : ℕ) → new ≡ strays ++ option_to_list found → length strays ≤ old + length seen → length new ≤ old + length (seen ++ e ∷ [])
-one_counted strays new found seen e old same h = omega (arith, one_more strays new found (old + length seen) same h, length-append seen (e ∷ []))
+pub one_counted : (strays new : List Stray) (found : Option Stray) (seen : List (ℕ × Item)) (e : ℕ × Item) (old : ℕ)
+    → new ≡ strays ++ option_to_list found → length strays ≤ old + length seen → length new ≤ old + length (seen ++ e ∷ [])
+one_counted strays new found seen e old same h =
+    omega (arith, one_more strays new found (old + length seen) same h, length-append seen (e ∷ []))
 
 -- where there is no room for one item more, there was none for all
-pub no_room : (all seen left rest : List (ℕ × Item)) (e : ℕ × Item) (old n room : ℕ) → all ≡ seen ++ left → left ≡ e ∷ rest → n ≤ old + length seen → room ≤ n → old + length all ≤ room → ⊥
+pub no_room : (all seen left rest : List (ℕ × Item)) (e : ℕ × Item) (old n room : ℕ) → all ≡ seen ++ left → left ≡ e ∷ rest
+    → n ≤ old + length seen → room ≤ n → old + length all ≤ room → ⊥
 no_room all seen left rest e old n room so_far step few full fits =
     let whole = ap length so_far in
     let more = ap length step in
@@ -123,13 +157,18 @@ no_room all seen left rest e old n room so_far step few full fits =
 
 -- ---- block after block
 
-pub none_taken : (frame : Frame) (rising : Bool) (chain : List Place) (k : ℕ) (steps : Steps) (w : Work) (strays : List Stray) → strays ≡ [] → AreStraysTo frame rising chain k steps w 0 strays
+pub none_taken : (frame : Frame) (rising : Bool) (chain : List Place) (k : ℕ) (steps : Steps) (w : Work) (strays : List Stray) → strays ≡ []
+    → AreStraysTo frame rising chain k steps w 0 strays
 none_taken frame rising chain k steps w strays e = record {
   only = λ x has. let nothing = subst (λ (xs : List Stray). Contains xs x) e has in absurd (omega (arith, nothing.1));
   all = λ edge item s hand below owned runs is near. absurd (omega arith);
 }
 
-pub block_taken : (frame : Frame) (rising : Bool) (chain : List Place) (k : ℕ) (steps : Steps) (w : Work) (whole block : Extent) (start end : ℕ) (found : List (ℕ × Item)) (old new : List Stray) → AreItemsIn w block.low block.high found → AreFoundIn chain start end steps whole block → All (IsInBox whole.low whole.high) chain → end < length chain → AreStraysOf frame rising chain k steps (take (end + 1 - start) (drop start chain)) old found new → AreStraysTo frame rising chain k steps w start old → AreStraysTo frame rising chain k steps w end new
+pub block_taken : (frame : Frame) (rising : Bool) (chain : List Place) (k : ℕ) (steps : Steps) (w : Work) (whole block : Extent)
+    (start end : ℕ) (found : List (ℕ × Item)) (old new : List Stray) → AreItemsIn w block.low block.high found
+    → AreFoundIn chain start end steps whole block → All (IsInBox whole.low whole.high) chain → end < length chain
+    → AreStraysOf frame rising chain k steps (take (end + 1 - start) (drop start chain)) old found new
+    → AreStraysTo frame rising chain k steps w start old → AreStraysTo frame rising chain k steps w end new
 block_taken frame rising chain k steps w whole block start end found old new items in_block box within taken to = record {
   only = λ x has.
       elim (taken.only x has) [
@@ -146,14 +185,17 @@ block_taken frame rising chain k steps w whole block start end found old new ite
         | inr low ↦
             elim (in_box_or_beyond whole.low whole.high item.at chain box) [
               | inl inside ↦
-                  let there = items.all item.owner item.at owned (in_box_tested block.low block.high item.at (in_block edge item.at low below near inside)) in
-                  inl (taken.all there.0 item s hand there.1 runs is (near_in_part steps chain item.at start end edge within low below near))
+                  let there = items.all item.owner item.at owned
+                  (in_box_tested block.low block.high item.at (in_block edge item.at low below near inside)) in
+                  inl (taken.all there.0 item s hand there.1 runs is
+                  (near_in_part steps chain item.at start end edge within low below near))
               | inr beyond ↦ inr beyond
             ]
       ];
 }
 
-pub all_taken : (frame : Frame) (rising : Bool) (chain : List Place) (k : ℕ) (steps : Steps) (w : Work) (upto : ℕ) (strays : List Stray) → length chain ≤ upto + 1 → AreStraysTo frame rising chain k steps w upto strays → AreMapStrays frame rising chain k steps w strays
+pub all_taken : (frame : Frame) (rising : Bool) (chain : List Place) (k : ℕ) (steps : Steps) (w : Work) (upto : ℕ) (strays : List Stray)
+    → length chain ≤ upto + 1 → AreStraysTo frame rising chain k steps w upto strays → AreMapStrays frame rising chain k steps w strays
 all_taken frame rising chain k steps w upto strays last to = record {
   only = to.only;
   all = λ item s hand owned runs is near. let within = near.within in to.all near.edge item s hand (omega arith) owned runs is near.near;
@@ -161,7 +203,9 @@ all_taken frame rising chain k steps w upto strays last to = record {
 
 -- ---- the whole chain at once
 
-pub whole_taken : (frame : Frame) (rising : Bool) (chain : List Place) (k : ℕ) (steps : Steps) (w : Work) (whole : Extent) (found : List (ℕ × Item)) (before strays : List Stray) → AreItemsIn w whole.low whole.high found → All (IsInBox whole.low whole.high) chain → before ≡ [] → AreStraysOf frame rising chain k steps chain before found strays → AreMapStrays frame rising chain k steps w strays
+pub whole_taken : (frame : Frame) (rising : Bool) (chain : List Place) (k : ℕ) (steps : Steps) (w : Work) (whole : Extent) (found :
+    List (ℕ × Item)) (before strays : List Stray) → AreItemsIn w whole.low whole.high found → All (IsInBox whole.low whole.high) chain
+    → before ≡ [] → AreStraysOf frame rising chain k steps chain before found strays → AreMapStrays frame rising chain k steps w strays
 whole_taken frame rising chain k steps w whole found before strays items box empty h = record {
   only = λ x has.
       elim (h.only x has) [
@@ -179,7 +223,9 @@ whole_taken frame rising chain k steps w whole found before strays items box emp
 
 -- ---- in another order
 
-pub strays_sorted : (frame : Frame) (rising : Bool) (chain : List Place) (k : ℕ) (steps : Steps) (w : Work) (old new : List Stray) → AreMapStrays frame rising chain k steps w old → ((x : Stray) → Contains old x → Contains new x) → ((x : Stray) → Contains new x → Contains old x) → AreMapStrays frame rising chain k steps w new
+pub strays_sorted : (frame : Frame) (rising : Bool) (chain : List Place) (k : ℕ) (steps : Steps) (w : Work) (old new : List Stray)
+    → AreMapStrays frame rising chain k steps w old → ((x : Stray) → Contains old x → Contains new x)
+    → ((x : Stray) → Contains new x → Contains old x) → AreMapStrays frame rising chain k steps w new
 strays_sorted frame rising chain k steps w old new h to back = record {
   only = λ x has. h.only x (back x has);
   all = λ item s hand owned runs is near.

@@ -17,7 +17,8 @@ left_back a b p = let turn = area_turned p a b in (λ h. omega (arith, sums), λ
 right_back : (a b p : Place) → (area_of a b p <ℤ pos 0) ↔ (pos 0 <ℤ area_of b a p)
 right_back a b p = let turn = area_turned p a b in (λ h. omega (arith, sums), λ h. omega (arith, sums))
 
-pub side_of_hand : (frame : Frame) (rising : Bool) (hand : Hand) (a b p : Place) → IsOnSide hand a b p ↔ IsSideOfLine frame rising a b p (side_of frame rising hand)
+pub side_of_hand : (frame : Frame) (rising : Bool) (hand : Hand) (a b p : Place) → IsOnSide hand a b p
+    ↔ IsSideOfLine frame rising a b p (side_of frame rising hand)
 side_of_hand Plain true Left a b p = (λ h. h, λ h. h)
 side_of_hand Plain true Right a b p = (λ h. h, λ h. h)
 side_of_hand Plain false Left a b p = left_back a b p

@@ -58,8 +58,10 @@ pub record IsBeside (chains : List Chain) (points : List Place) (k : ℕ) (b : F
   pub frame : b.frame ≡ (chain_at chains k).frame
   pub rows : length b.starts ≡ 2 * length (chain_at chains k).rest + 1
   -- what stands in the row of an edge is an obstacle, and stands beside the edge
-  pub obstacles : (s : ℕ) (hand : Hand) (p : Place) → s < length (chain_at chains k).rest → StandsInRow b (row_of s hand) p → IsObstacle chains points k p
-  pub beside : (s : ℕ) (hand : Hand) (p : Place) → s < length (chain_at chains k).rest → StandsInRow b (row_of s hand) p → IsBesideEdge (chain_at chains k).frame (chain_places (chain_at chains k)) s hand p
+  pub obstacles : (s : ℕ) (hand : Hand) (p : Place) → s < length (chain_at chains k).rest → StandsInRow b (row_of s hand) p
+      → IsObstacle chains points k p
+  pub beside : (s : ℕ) (hand : Hand) (p : Place) → s < length (chain_at chains k).rest → StandsInRow b (row_of s hand) p
+      → IsBesideEdge (chain_at chains k).frame (chain_places (chain_at chains k)) s hand p
   -- each chain of the map has an edge
   pub edges : All (λ chain. 0 < length chain.rest) chains
 
@@ -69,11 +71,15 @@ pub record HoldsReach (chains : List Chain) (points : List Place) (k : ℕ) (wei
   pub weight_across : pos 1 ≤ℤ weights.x
   pub weight_up : pos 1 ≤ℤ weights.y
   pub bound_low : pos 0 ≤ℤ bound
-  pub all : (s : ℕ) (hand : Hand) (p : Place) → s < length (chain_at chains k).rest → IsObstacle chains points k p → IsBesideEdge (chain_at chains k).frame (chain_places (chain_at chains k)) s hand p → IsInReachBy weights.x weights.y bound p (chain_at chains k).first.place (places (chain_at chains k).rest) → StandsInRow b (row_of s hand) p ⊎ IsBeyond (chain_places (chain_at chains k)) p
+  pub all : (s : ℕ) (hand : Hand) (p : Place) → s < length (chain_at chains k).rest → IsObstacle chains points k p
+      → IsBesideEdge (chain_at chains k).frame (chain_places (chain_at chains k)) s hand p
+      → IsInReachBy weights.x weights.y bound p (chain_at chains k).first.place (places (chain_at chains k).rest)
+      → StandsInRow b (row_of s hand) p ⊎ IsBeyond (chain_places (chain_at chains k)) p
 
 -- the vertices of the chain between those number i and j are within the bound of the segment between the two
 abbrev pub IsNearPair : Scales → ℤ → Chain → ℕ → ℕ → Type 0
-IsNearPair weights bound chain i j = All (λ u. IsWithinBound weights.x weights.y bound (vertex_number chain i).place (vertex_number chain j).place u.place) (between (i + 1) j (vertices_of chain))
+IsNearPair weights bound chain i j = All (λ u. IsWithinBound weights.x weights.y bound (vertex_number chain i).place
+    (vertex_number chain j).place u.place) (between (i + 1) j (vertices_of chain))
 
 -- what stands beside the edge number s is on the same hand of the way from a to v
 abbrev pub KeepsSides : Flanks → ℕ → Place → Place → Type 0

@@ -20,10 +20,12 @@ pub record IsFrom (frame : Frame) (rising : Bool) (chain : List Place) (k : ℕ)
   pub is : IsStrayOf frame rising chain k item x
 
 -- these are the strays of before, and strays among the items: each at least that is near an edge of the part
-pub record AreStraysOf (frame : Frame) (rising : Bool) (chain : List Place) (k : ℕ) (steps : Steps) (part : List Place) (before : List Stray) (found : List (ℕ × Item)) (strays : List Stray) : Type 0 where
+pub record AreStraysOf (frame : Frame) (rising : Bool) (chain : List Place) (k : ℕ) (steps : Steps) (part : List Place) (before :
+    List Stray) (found : List (ℕ × Item)) (strays : List Stray) : Type 0 where
   pub only : (x : Stray) → Contains strays x → Contains before x ⊎ IsFrom frame rising chain k found x
   pub kept : (x : Stray) → Contains before x → Contains strays x
-  pub all : (number : ℕ) (item : Item) (s : ℕ) (hand : Hand) → Contains found (number, item) → RunsAlong frame rising chain → IsStrayItem frame rising chain k item s hand → IsNearSomeEdge steps part item.at → Contains strays (stray s hand item.at)
+  pub all : (number : ℕ) (item : Item) (s : ℕ) (hand : Hand) → Contains found (number, item) → RunsAlong frame rising chain
+      → IsStrayItem frame rising chain k item s hand → IsNearSomeEdge steps part item.at → Contains strays (stray s hand item.at)
 
 -- some item of the map is this stray
 pub record IsMapStray (frame : Frame) (rising : Bool) (chain : List Place) (k : ℕ) (w : Work) (x : Stray) : Type 0 where
@@ -33,11 +35,17 @@ pub record IsMapStray (frame : Frame) (rising : Bool) (chain : List Place) (k : 
 
 -- these are strays among the items of the map: each at least that is near an edge before the edge number `upto`, and not beyond the
 -- chain
-pub record AreStraysTo (frame : Frame) (rising : Bool) (chain : List Place) (k : ℕ) (steps : Steps) (w : Work) (upto : ℕ) (strays : List Stray) : Type 0 where
+pub record AreStraysTo (frame : Frame) (rising : Bool) (chain : List Place) (k : ℕ) (steps : Steps) (w : Work) (upto : ℕ) (strays :
+    List Stray) : Type 0 where
   pub only : (x : Stray) → Contains strays x → IsMapStray frame rising chain k w x
-  pub all : (edge : ℕ) (item : Item) (s : ℕ) (hand : Hand) → edge < upto → Owns w.chains w.read.points item.owner item.at → RunsAlong frame rising chain → IsStrayItem frame rising chain k item s hand → IsNearEdge steps chain item.at edge → Contains strays (stray s hand item.at) ⊎ IsBeyond chain item.at
+  pub all : (edge : ℕ) (item : Item) (s : ℕ) (hand : Hand) → edge < upto → Owns w.chains w.read.points item.owner item.at
+      → RunsAlong frame rising chain → IsStrayItem frame rising chain k item s hand → IsNearEdge steps chain item.at edge
+      → Contains strays (stray s hand item.at) ⊎ IsBeyond chain item.at
 
 -- these are strays among the items of the map: each at least that is near an edge, and not beyond the chain
-pub record AreMapStrays (frame : Frame) (rising : Bool) (chain : List Place) (k : ℕ) (steps : Steps) (w : Work) (strays : List Stray) : Type 0 where
+pub record AreMapStrays (frame : Frame) (rising : Bool) (chain : List Place) (k : ℕ) (steps : Steps) (w : Work) (strays : List Stray) :
+    Type 0 where
   pub only : (x : Stray) → Contains strays x → IsMapStray frame rising chain k w x
-  pub all : (item : Item) (s : ℕ) (hand : Hand) → Owns w.chains w.read.points item.owner item.at → RunsAlong frame rising chain → IsStrayItem frame rising chain k item s hand → IsNearSomeEdge steps chain item.at → Contains strays (stray s hand item.at) ⊎ IsBeyond chain item.at
+  pub all : (item : Item) (s : ℕ) (hand : Hand) → Owns w.chains w.read.points item.owner item.at → RunsAlong frame rising chain
+      → IsStrayItem frame rising chain k item s hand → IsNearSomeEdge steps chain item.at
+      → Contains strays (stray s hand item.at) ⊎ IsBeyond chain item.at

@@ -10,11 +10,15 @@ use Rattle.side_wedge.specs.Obstacles.{IsConsistentPair}
 
 -- no feature point and no end of an edge changes sides where the run from v over the skipped vertices to w becomes the segment vw:
 -- the consistency part of `IsShortcut`
-pub record AreConsistent (IsEdge : Vertex → Vertex → Type 0) (IsPoint : Place → Type 0) (v : Vertex) (skipped : List Vertex) (w : Vertex) : Type 0 where
+pub record AreConsistent (IsEdge : Vertex → Vertex → Type 0) (IsPoint : Place → Type 0) (v : Vertex) (skipped : List Vertex) (w : Vertex) :
+    Type 0 where
   pub points : (p : Place) → IsPoint p → IsConsistent v.place w.place (places skipped) p
   pub starts : (c d : Vertex) → IsEdge c d → IsConsistent v.place w.place (places skipped) c.place
   pub ends : (c d : Vertex) → IsEdge c d → IsConsistent v.place w.place (places skipped) d.place
 
 -- Where each chain has an edge, no obstacle changes sides exactly where no feature point and no end of an edge of another chain does.
 abbrev pub ConsistencyByEdges : Type 0
-ConsistencyByEdges = (chains : List Chain) (points : List Place) (k i j : ℕ) → All (λ chain. 0 < length chain.rest) chains → IsConsistentPair chains points k i j ↔ AreConsistent (IsOtherEdge chains k) (Contains points) (vertex_at (chain_at chains k) i) (between (i + 1) j (vertices_of (chain_at chains k))) (vertex_at (chain_at chains k) j)
+ConsistencyByEdges = (chains : List Chain) (points : List Place) (k i j : ℕ) → All (λ chain. 0 < length chain.rest) chains
+    → IsConsistentPair chains points k i j
+    ↔ AreConsistent (IsOtherEdge chains k) (Contains points) (vertex_at (chain_at chains k) i)
+    (between (i + 1) j (vertices_of (chain_at chains k))) (vertex_at (chain_at chains k) j)

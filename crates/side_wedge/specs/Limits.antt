@@ -25,15 +25,19 @@ IsWithinLimit hand start (Some p) v = IsOnSide hand start v p
 
 -- where both limits are past the start, no way past it has the left limit on its left and the right limit on its right
 abbrev pub AreCrossed : Frame → Bool → Place → Option Place → Option Place → Type 0
-AreCrossed frame rising start left right = ForSome left (IsAlong frame rising start) → ForSome right (IsAlong frame rising start) → (v : Place) → IsAlong frame rising start v → IsWithinLimit Left start left v → ¬ (IsWithinLimit Right start right v)
+AreCrossed frame rising start left right = ForSome left (IsAlong frame rising start) → ForSome right (IsAlong frame rising start)
+    → (v : Place) → IsAlong frame rising start v → IsWithinLimit Left start left v → ¬ (IsWithinLimit Right start right v)
 
 -- the new limit stands for the old one and p: it is past the start, and is on this hand of the way to a place past the start
 -- exactly where both are
 pub record IsTighter (frame : Frame) (rising : Bool) (hand : Hand) (start : Place) (limit : Option Place) (p new : Place) : Type 0 where
   pub past : IsAlong frame rising start new
-  pub same : (v : Place) → IsAlong frame rising start v → IsOnSide hand start v new ↔ (IsWithinLimit hand start limit v × IsOnSide hand start v p)
+  pub same : (v : Place) → IsAlong frame rising start v → IsOnSide hand start v new
+      ↔ (IsWithinLimit hand start limit v × IsOnSide hand start v p)
 
 -- the new limit stands for the old one and the places of the lists from the number `from` to before the number `to`
-pub record IsTightestOf (frame : Frame) (rising : Bool) (hand : Hand) (start : Place) (limit : Option Place) (xs ys : List ℤ) (from to : ℕ) (new : Option Place) : Type 0 where
+pub record IsTightestOf (frame : Frame) (rising : Bool) (hand : Hand) (start : Place) (limit : Option Place) (xs ys : List ℤ) (from to : ℕ)
+    (new : Option Place) : Type 0 where
   pub past : ForSome new (IsAlong frame rising start)
-  pub same : (v : Place) → IsAlong frame rising start v → IsWithinLimit hand start new v ↔ (IsWithinLimit hand start limit v × EachBetween from to (IsOnSide hand start v) xs ys)
+  pub same : (v : Place) → IsAlong frame rising start v → IsWithinLimit hand start new v
+      ↔ (IsWithinLimit hand start limit v × EachBetween from to (IsOnSide hand start v) xs ys)

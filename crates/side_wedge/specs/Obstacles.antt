@@ -14,4 +14,6 @@ pub data IsObstacle (chains : List Chain) (points : List Place) (k : ℕ) (p : P
 
 -- the consistency part of the pair (i, j) of the chain number k: no obstacle changes sides
 abbrev pub IsConsistentPair : List Chain → List Place → ℕ → ℕ → ℕ → Type 0
-IsConsistentPair chains points k i j = (p : Place) → IsObstacle chains points k p → IsConsistent (vertex_at (chain_at chains k) i).place (vertex_at (chain_at chains k) j).place (places (between (i + 1) j (vertices_of (chain_at chains k)))) p
+IsConsistentPair chains points k i j = (p : Place) → IsObstacle chains points k p
+    → IsConsistent (vertex_at (chain_at chains k) i).place (vertex_at (chain_at chains k) j).place
+    (places (between (i + 1) j (vertices_of (chain_at chains k)))) p

@@ -1,5 +1,6 @@
 //! What stands beside one chain, and the consistency of its pairs.
-ghost use Rattle.std.specs.Prelude.{◌≡◌, ◌↔◌, ◌+◌, ◌-◌, ◌*◌, ◌<◌, ◌≤◌, ℕ, ℤ, true, false, IfOk, IsTrue, length, slice_index_or};
+ghost use Rattle.std.specs.Prelude.{◌≡◌, ◌↔◌, ◌+◌, ◌-◌, ◌*◌, ◌<◌, ◌≤◌, ℕ, ℤ, true, false, IfOk};
+ghost use Rattle.std.specs.Prelude.{IsTrue, length, slice_index_or};
 ghost use Rattle.grid_exact.specs.Geometry.{Place};
 ghost use Rattle.chain_side.specs.Along.{IsAlong, vertex_at};
 ghost use Rattle.lane_kernels.specs.declared.side.Hand.{Hand};
@@ -7,7 +8,8 @@ ghost use Rattle.arc_map.specs.Chains.{chain_at, IsClearIn};
 ghost use Rattle.map_index.specs.IndexedMap.{items_in};
 ghost use Rattle.side_wedge.specs.Obstacles.{IsConsistentPair};
 ghost use Rattle.grid_exact.specs.Weights.{Scales};
-ghost use Rattle.side_wedge.specs.Flanks.{HoldsReach, IsBeside, IsNearPair, StandsInRow, KeepsSides, row_of};
+ghost use Rattle.side_wedge.specs.Flanks.{HoldsReach, IsBeside, IsNearPair, StandsInRow};
+ghost use Rattle.side_wedge.specs.Flanks.{KeepsSides, row_of};
 ghost use Rattle.side_wedge.specs.Rows.{IsRow, KeepsAll};
 ghost use Rattle.side_wedge.specs.Strays.{RunsAlong};
 ghost use Rattle.side_wedge.specs.Wedge.{Lets, StartsAt, IsPast};
@@ -103,9 +105,14 @@ impl Beside {
         requires beside { IsBeside map.now.chains map.now.read.points k self.now }
         requires start { i < length row.old }
         requires row { length row.old ≤ length (chain_at map.now.chains k).rest + 1 }
-        ensures consistent { (j : ℕ) → i < j → j < length row.new → IsConsistentPair map.now.chains map.now.read.points k i j → IsTrue (slice_index_or row.new j false) }
-        ensures near { (weights : Scales) (bound : ℤ) → HoldsReach map.now.chains map.now.read.points k weights bound self.now
-            → (j : ℕ) → i < j → j < length row.new → IsTrue (slice_index_or row.new j false) → IsNearPair weights bound (chain_at map.now.chains k) i j → IsConsistentPair map.now.chains map.now.read.points k i j }
+        ensures consistent { (j : ℕ) → i < j → j < length row.new
+            → IsConsistentPair map.now.chains map.now.read.points k i j
+            → IsTrue (slice_index_or row.new j false) }
+        ensures near { (weights : Scales) (bound : ℤ)
+            → HoldsReach map.now.chains map.now.read.points k weights bound self.now
+            → (j : ℕ) → i < j → j < length row.new → IsTrue (slice_index_or row.new j false)
+            → IsNearPair weights bound (chain_at map.now.chains k) i j
+            → IsConsistentPair map.now.chains map.now.read.points k i j }
         ensures before { (j : ℕ) → j ≤ i → slice_index_or row.new j false ≡ false }
         ensures length { length row.new ≡ length row.old }
     {
@@ -142,9 +149,13 @@ impl Beside {
         requires row { length row.old ≤ length chain.now }
         requires rows { length self.now.starts + 1 ≡ 2 * length chain.now }
         requires runs { RunsAlong frame rising chain.now }
-        requires past { (s : ℕ) (hand : Hand) (p : Place) → i ≤ s → s + 1 < length chain.now → StandsInRow self.now (row_of s hand) p → IsAlong frame rising (vertex_at chain.now i) p }
-        ensures told { (j : ℕ) → i < j → j < length row.new → (IsTrue (slice_index_or row.new j false) ↔ KeepsAll self.now chain.now i j) }
-        ensures before { (j : ℕ) → j ≤ i → slice_index_or row.new j false ≡ slice_index_or row.old j false }
+        requires past { (s : ℕ) (hand : Hand) (p : Place) → i ≤ s → s + 1 < length chain.now
+            → StandsInRow self.now (row_of s hand) p
+            → IsAlong frame rising (vertex_at chain.now i) p }
+        ensures told { (j : ℕ) → i < j → j < length row.new
+            → (IsTrue (slice_index_or row.new j false) ↔ KeepsAll self.now chain.now i j) }
+        ensures before { (j : ℕ) → j ≤ i → slice_index_or row.new j false
+            ≡ slice_index_or row.old j false }
         ensures length { length row.new ≡ length row.old }
     {
         let mut wedge = Wedge::start(frame, chain[i], rising);
@@ -162,8 +173,10 @@ impl Beside {
     fn narrow(&self, wedge: &mut Wedge, edge: usize)
         requires few { edge < 1024 }
         requires rows { 2 * edge + 2 < length self.now.starts }
-        requires past { (hand : Hand) (p : Place) → StandsInRow self.now (row_of edge hand) p → IsPast wedge.old p }
-        ensures lets { (v : Place) → IsPast wedge.new v → Lets wedge.new v ↔ (Lets wedge.old v × KeepsSides self.now edge wedge.old.origin v) }
+        requires past { (hand : Hand) (p : Place) → StandsInRow self.now (row_of edge hand) p
+            → IsPast wedge.old p }
+        ensures lets { (v : Place) → IsPast wedge.new v → Lets wedge.new v
+            ↔ (Lets wedge.old v × KeepsSides self.now edge wedge.old.origin v) }
         ensures origin { StartsAt wedge.new wedge.old.frame wedge.old.rising wedge.old.origin }
     {
         let (xs, ys) = self.row(2 * edge);
@@ -195,8 +208,10 @@ fn clear_to(row: &mut [bool], to: usize)
 // Clears the places from the number `from` on. Those before it stay.
 fn clear_from(row: &mut [bool], from: usize)
     requires { from ≤ length row.old }
-    ensures clear { (j : ℕ) → from ≤ j → j < length row.new → slice_index_or row.new j false ≡ false }
-    ensures before { (j : ℕ) → j < from → slice_index_or row.new j false ≡ slice_index_or row.old j false }
+    ensures clear { (j : ℕ) → from ≤ j → j < length row.new
+        → slice_index_or row.new j false ≡ false }
+    ensures before { (j : ℕ) → j < from → slice_index_or row.new j false
+        ≡ slice_index_or row.old j false }
     ensures length { length row.new ≡ length row.old }
 {
     row[from..].fill(false);
@@ -206,7 +221,8 @@ fn clear_from(row: &mut [bool], from: usize)
 fn allow_from(row: &mut [bool], from: usize)
     requires { from ≤ length row.old }
     ensures set { (j : ℕ) → from ≤ j → j < length row.new → slice_index_or row.new j false ≡ true }
-    ensures before { (j : ℕ) → j < from → slice_index_or row.new j false ≡ slice_index_or row.old j false }
+    ensures before { (j : ℕ) → j < from → slice_index_or row.new j false
+        ≡ slice_index_or row.old j false }
     ensures length { length row.new ≡ length row.old }
 {
     row[from..].fill(true);

@@ -1,5 +1,6 @@
 //! The search for what stands beside a chain.
-ghost use Rattle.std.specs.Prelude.{◌≡◌, ◌⊎◌, ◌+◌, ◌-◌, ◌<◌, ◌≤◌, ◌++◌, ℕ, IsTrue, IfSome, Some, false, All, length, option_to_list, vec_len, vec_capacity};
+ghost use Rattle.std.specs.Prelude.{◌≡◌, ◌⊎◌, ◌+◌, ◌-◌, ◌<◌, ◌≤◌, ◌++◌, ℕ, IsTrue, IfSome, Some};
+ghost use Rattle.std.specs.Prelude.{false, All, length, option_to_list, vec_len, vec_capacity};
 ghost use Rattle.std.specs.List.Sorted.{IsNonDecreasingBy};
 ghost use Rattle.chain_side.specs.Along.{vertex_at};
 ghost use Rattle.lane_kernels.specs.declared.side.Hand.{Hand};
@@ -34,7 +35,8 @@ pub fn gather(strays: &mut Vec<Stray>, subject: &Subject<'_>, map: &IndexedMap)
     requires several { 2 ≤ length subject.now.chain.now }
     requires short { length subject.now.chain.now ≤ 1024 }
     requires room { items_in map.now ≤ vec_capacity strays.old }
-    ensures strays { AreMapStrays subject.now.frame subject.now.rising subject.now.chain.now subject.now.number subject.now.steps map.now strays.new.items }
+    ensures strays { AreMapStrays subject.now.frame subject.now.rising subject.now.chain.now
+        subject.now.number subject.now.steps map.now strays.new.items }
     ensures sorted { IsNonDecreasingBy (λ x. x.row) strays.new.items }
     ensures count { vec_len strays.new ≤ items_in map.now }
     ensures capacity { vec_capacity strays.new ≡ vec_capacity strays.old }
@@ -48,7 +50,8 @@ fn find(strays: &mut Vec<Stray>, subject: &Subject<'_>, map: &IndexedMap)
     requires several { 2 ≤ length subject.now.chain.now }
     requires short { length subject.now.chain.now ≤ 1024 }
     requires room { items_in map.now ≤ vec_capacity strays.old }
-    ensures strays { AreMapStrays subject.now.frame subject.now.rising subject.now.chain.now subject.now.number subject.now.steps map.now strays.new.items }
+    ensures strays { AreMapStrays subject.now.frame subject.now.rising subject.now.chain.now
+        subject.now.number subject.now.steps map.now strays.new.items }
     ensures count { vec_len strays.new ≤ items_in map.now }
     ensures capacity { vec_capacity strays.new ≡ vec_capacity strays.old }
 {
@@ -74,7 +77,9 @@ fn take_blocks(
     requires room { items_in map.now ≤ vec_capacity strays.old }
     requires round { All (IsInBox whole.now.low whole.now.high) subject.now.chain.now }
     requires size { 0 < size }
-    ensures strays { IsTrue result → AreMapStrays subject.now.frame subject.now.rising subject.now.chain.now subject.now.number subject.now.steps map.now strays.new.items }
+    ensures strays { IsTrue result
+        → AreMapStrays subject.now.frame subject.now.rising subject.now.chain.now subject.now.number
+        subject.now.steps map.now strays.new.items }
     ensures count { vec_len strays.new ≤ items_in map.now }
     ensures capacity { vec_capacity strays.new ≡ vec_capacity strays.old }
 {
@@ -107,8 +112,11 @@ fn take_block(
     requires round { All (IsInBox whole.now.low whole.now.high) subject.now.chain.now }
     requires order { start < end }
     requires within { end < length subject.now.chain.now }
-    ensures strays { IsTrue result → AreStraysTo subject.now.frame subject.now.rising subject.now.chain.now subject.now.number subject.now.steps map.now start strays.old.items
-        → AreStraysTo subject.now.frame subject.now.rising subject.now.chain.now subject.now.number subject.now.steps map.now end strays.new.items }
+    ensures strays { IsTrue result
+        → AreStraysTo subject.now.frame subject.now.rising subject.now.chain.now subject.now.number
+        subject.now.steps map.now start strays.old.items
+        → AreStraysTo subject.now.frame subject.now.rising subject.now.chain.now subject.now.number
+        subject.now.steps map.now end strays.new.items }
     ensures count { vec_len strays.new ≤ items_in map.now }
     ensures capacity { vec_capacity strays.new ≡ vec_capacity strays.old }
 {
@@ -129,7 +137,8 @@ fn take_whole(strays: &mut Vec<Stray>, subject: &Subject<'_>, map: &IndexedMap, 
     requires short { length subject.now.chain.now ≤ 1024 }
     requires room { items_in map.now ≤ vec_capacity strays.old }
     requires round { All (IsInBox whole.now.low whole.now.high) subject.now.chain.now }
-    ensures strays { AreMapStrays subject.now.frame subject.now.rising subject.now.chain.now subject.now.number subject.now.steps map.now strays.new.items }
+    ensures strays { AreMapStrays subject.now.frame subject.now.rising subject.now.chain.now
+        subject.now.number subject.now.steps map.now strays.new.items }
     ensures count { vec_len strays.new ≤ items_in map.now }
     ensures capacity { vec_capacity strays.new ≡ vec_capacity strays.old }
 {
@@ -156,7 +165,9 @@ fn collect(
     requires short { length subject.now.chain.now ≤ 1024 }
     requires room { room ≤ vec_capacity strays.old }
     requires count { vec_len strays.old ≤ room }
-    ensures strays { IsTrue result → AreStraysOf subject.now.frame subject.now.rising subject.now.chain.now subject.now.number subject.now.steps part.now strays.old.items (items_left walk.entry) strays.new.items }
+    ensures strays { IsTrue result
+        → AreStraysOf subject.now.frame subject.now.rising subject.now.chain.now subject.now.number
+        subject.now.steps part.now strays.old.items (items_left walk.entry) strays.new.items }
     ensures all { length strays.old.items + length (items_left walk.entry) ≤ room → IsTrue result }
     ensures count { vec_len strays.new ≤ room }
     ensures capacity { vec_capacity strays.new ≡ vec_capacity strays.old }
@@ -174,9 +185,13 @@ fn collect(
 fn near_stray(subject: &Subject<'_>, part: &[Point], item: Item) -> Option<Stray>
     requires several { 2 ≤ length subject.now.chain.now }
     requires short { length subject.now.chain.now ≤ 1024 }
-    ensures some { IfSome result (IsStrayOf subject.now.frame subject.now.rising subject.now.chain.now subject.now.number item) }
-    ensures all { (s : ℕ) (hand : Hand) → RunsAlong subject.now.frame subject.now.rising subject.now.chain.now
-        → IsStrayItem subject.now.frame subject.now.rising subject.now.chain.now subject.now.number item s hand → IsNearSomeEdge subject.now.steps part.now item.at → result ≡ Some (stray s hand item.at) }
+    ensures some { IfSome result (IsStrayOf subject.now.frame subject.now.rising
+        subject.now.chain.now subject.now.number item) }
+    ensures all { (s : ℕ) (hand : Hand)
+        → RunsAlong subject.now.frame subject.now.rising subject.now.chain.now
+        → IsStrayItem subject.now.frame subject.now.rising subject.now.chain.now subject.now.number
+        item s hand → IsNearSomeEdge subject.now.steps part.now item.at
+        → result ≡ Some (stray s hand item.at) }
 {
     if is_at_end(subject.chain, item.at) {
         return None;
@@ -196,7 +211,8 @@ fn near_stray(subject: &Subject<'_>, part: &[Point], item: Item) -> Option<Stray
 // Whether p is at an end of the chain, so that it is over no edge of it.
 fn is_at_end(chain: &[Point], p: Point) -> bool
     requires { 2 ≤ length chain.now }
-    ensures { IsTrue result → (p ≡ vertex_at chain.now 0) ⊎ (p ≡ vertex_at chain.now (length chain.now - 1)) }
+    ensures { IsTrue result → (p ≡ vertex_at chain.now 0)
+        ⊎ (p ≡ vertex_at chain.now (length chain.now - 1)) }
 {
     is_either(p, chain[0], chain[chain.len() - 1])
 }

@@ -32,7 +32,8 @@ pub fn is_within(start: Point, v: Point, limit: Option<Point>, hand: Hand) -> bo
 
 // Whether no way past the start has the left limit on its left and the right limit on its right.
 pub fn leaves_none(start: Point, left: Option<Point>, right: Option<Point>) -> bool
-    ensures { IsTrue result → (frame : Frame) (rising : Bool) → AreCrossed frame rising start left right }
+    ensures { IsTrue result → (frame : Frame) (rising : Bool)
+        → AreCrossed frame rising start left right }
 {
     match (left, right) {
         (Some(p), Some(q)) => !is_on_hand(start, q, p, Hand::Left),
@@ -42,7 +43,8 @@ pub fn leaves_none(start: Point, left: Option<Point>, right: Option<Point>) -> b
 
 // The tighter of the limit and p, both past the start.
 pub fn tighter(start: Point, limit: Option<Point>, p: Point, hand: Hand) -> Point
-    ensures { (frame : Frame) (rising : Bool) → ForSome limit (IsAlong frame rising start) → IsAlong frame rising start p → IsTighter frame rising hand start limit p result }
+    ensures { (frame : Frame) (rising : Bool) → ForSome limit (IsAlong frame rising start)
+        → IsAlong frame rising start p → IsTighter frame rising hand start limit p result }
 {
     match limit {
         None => p,
@@ -51,7 +53,8 @@ pub fn tighter(start: Point, limit: Option<Point>, p: Point, hand: Hand) -> Poin
 }
 
 fn tighter_of(start: Point, q: Point, p: Point, hand: Hand) -> Point
-    ensures { (frame : Frame) (rising : Bool) → IsAlong frame rising start q → IsAlong frame rising start p → IsTighter frame rising hand start (Some q) p result }
+    ensures { (frame : Frame) (rising : Bool) → IsAlong frame rising start q
+        → IsAlong frame rising start p → IsTighter frame rising hand start (Some q) p result }
 {
     if is_on_hand(start, q, p, hand) { q } else { p }
 }
@@ -65,7 +68,9 @@ pub fn tightest(
     hand: Hand,
 ) -> Option<Point>
     requires { AreCoordinates xs.now ys.now }
-    ensures { (frame : Frame) (rising : Bool) → ForSome limit (IsAlong frame rising start) → EachPlace (IsAlong frame rising start) xs.now ys.now → IsTightestOf frame rising hand start limit xs.now ys.now 0 (length xs.now) result }
+    ensures { (frame : Frame) (rising : Bool) → ForSome limit (IsAlong frame rising start)
+        → EachPlace (IsAlong frame rising start) xs.now ys.now
+        → IsTightestOf frame rising hand start limit xs.now ys.now 0 (length xs.now) result }
 {
     if xs.is_empty() {
         return limit;
@@ -74,7 +79,8 @@ pub fn tightest(
     Some(tightest_from(start, first, xs, ys, 1, hand))
 }
 
-// The tightest of a limit and the points from the place `from` on. A point that is on the limit's hand changes nothing.
+// The tightest of a limit and the points from the place `from` on. A point that is on the limit's
+// hand changes nothing.
 fn tightest_from(
     start: Point,
     first: Point,
@@ -85,7 +91,10 @@ fn tightest_from(
 ) -> Point
     requires coordinates { AreCoordinates xs.now ys.now }
     requires within { from ≤ length xs.now }
-    ensures { (frame : Frame) (rising : Bool) → IsAlong frame rising start first → EachBetween from (length xs.now) (IsAlong frame rising start) xs.now ys.now → IsTightestOf frame rising hand start (Some first) xs.now ys.now from (length xs.now) (Some result) }
+    ensures { (frame : Frame) (rising : Bool) → IsAlong frame rising start first
+        → EachBetween from (length xs.now) (IsAlong frame rising start) xs.now ys.now
+        → IsTightestOf frame rising hand start (Some first) xs.now ys.now from (length xs.now)
+        (Some result) }
 {
     let mut limit = first;
     let mut at = from;

@@ -1,5 +1,6 @@
 //! Points beside the edges of a chain, and the rows in which they are kept.
-ghost use Rattle.std.specs.Prelude.{◌≡◌, ◌↔◌, ◌+◌, ◌-◌, ◌*◌, ◌<◌, ◌≤◌, ℕ, Some, IfSome, IfNone, IsTrue, length, map, slice_index, slice_index_or, vec_capacity};
+ghost use Rattle.std.specs.Prelude.{◌≡◌, ◌↔◌, ◌+◌, ◌-◌, ◌*◌, ◌<◌, ◌≤◌, ℕ, Some, IfSome, IfNone};
+ghost use Rattle.std.specs.Prelude.{IsTrue, length, map, slice_index, slice_index_or, vec_capacity};
 ghost use Rattle.std.specs.List.Sorted.{IsNonDecreasingBy};
 ghost use Rattle.grid_exact.specs.Geometry.{Place, area_of};
 ghost use Rattle.chain_side.specs.Along.{IsAlong, vertex_at};
@@ -8,7 +9,8 @@ ghost use Rattle.lane_kernels.specs.declared.side.Hand.{Hand};
 ghost use Rattle.lane_kernels.specs.Hands.{IsOnSide};
 ghost use Rattle.lane_kernels.specs.Places.{AreCoordinates};
 ghost use Rattle.side_wedge.specs.Flanks.{row_of};
-ghost use Rattle.side_wedge.specs.Strays.{RunsAlong, IsOverEdge, IsStrayItem, IsStrayOf, IsStartOf, stray};
+ghost use Rattle.side_wedge.specs.Strays.{RunsAlong, IsOverEdge, IsStrayItem, IsStrayOf, IsStartOf};
+ghost use Rattle.side_wedge.specs.Strays.{stray};
 
 use chain_side::{comes_before, edge_at};
 use grid_exact::{Frame, Point, area};
@@ -16,8 +18,8 @@ use lane_kernels::Hand;
 use map_index::is_other;
 use sweep_index::Item;
 
-// A point beside an edge of a chain, in its row: on the left of the edge number s is the row 2 * s, on its right the row
-// 2 * s + 1.
+// A point beside an edge of a chain, in its row: on the left of the edge number s is the row 2 * s,
+// on its right the row 2 * s + 1.
 #[derive(Clone, Copy)]
 pub struct Stray {
     pub row: u32,
@@ -32,13 +34,14 @@ pub fn rises(chain: &[Point], frame: Frame) -> bool
     comes_before(frame, true, chain[0], chain[chain.len() - 1])
 }
 
-// The item as a stray, where it belongs to another chain than the chain number `k`, or to none, and stands beside an edge of
-// the chain.
+// The item as a stray, where it belongs to another chain than the chain number `k`, or to none, and
+// stands beside an edge of the chain.
 pub fn stray_of(chain: &[Point], frame: Frame, rising: bool, k: u32, item: Item) -> Option<Stray>
     requires several { 2 ≤ length chain.now }
     requires short { length chain.now ≤ 1024 }
     ensures some { IfSome result (IsStrayOf frame rising chain.now k item) }
-    ensures all { (s : ℕ) (hand : Hand) → RunsAlong frame rising chain.now → IsStrayItem frame rising chain.now k item s hand → result ≡ Some (stray s hand item.at) }
+    ensures all { (s : ℕ) (hand : Hand) → RunsAlong frame rising chain.now
+        → IsStrayItem frame rising chain.now k item s hand → result ≡ Some (stray s hand item.at) }
 {
     if !is_other(item.owner, k) {
         return None;
@@ -66,7 +69,8 @@ fn row(edge: usize, hand: Hand) -> u32
 fn edge_under(chain: &[Point], frame: Frame, rising: bool, p: Point) -> Option<usize>
     requires { 2 ≤ length chain.now }
     ensures some { IfSome result (IsOverEdge frame rising chain.now p) }
-    ensures all { (s : ℕ) → RunsAlong frame rising chain.now → IsOverEdge frame rising chain.now p s → result ≡ Some s }
+    ensures all { (s : ℕ) → RunsAlong frame rising chain.now → IsOverEdge frame rising chain.now p s
+        → result ≡ Some s }
 {
     let last = chain.len() - 1;
     if comes_before(frame, rising, p, chain[0]) || comes_before(frame, rising, chain[last], p) {
@@ -101,12 +105,14 @@ fn hand_beside(a: Point, b: Point, p: Point) -> Option<Hand>
     }
 }
 
-// Writes where each row begins, and where the last one ends, for strays in order of their rows. There is room for it.
+// Writes where each row begins, and where the last one ends, for strays in order of their rows.
+// There is room for it.
 pub fn write_starts(starts: &mut Vec<usize>, strays: &[Stray], rows: u32)
     requires sorted { IsNonDecreasingBy (λ x. x.row) strays.now }
     requires room { rows + 1 ≤ vec_capacity starts.old }
     ensures count { length starts.new.items ≡ rows + 1 }
-    ensures right { (row : ℕ) → row ≤ rows → IsStartOf strays.now row (slice_index starts.new.items row) }
+    ensures right { (row : ℕ) → row ≤ rows
+        → IsStartOf strays.now row (slice_index starts.new.items row) }
     ensures capacity { vec_capacity starts.new ≡ vec_capacity starts.old }
 {
     starts.clear();

@@ -12,8 +12,8 @@ use chain_side::Side;
 use grid_exact::{Frame, Point};
 use lane_kernels::Hand;
 
-/// From a start, the points past it in the direction of a chain to which a straight way leaves each point taken so far on its
-/// side. Of the points taken only the tightest on either hand are kept.
+/// From a start, the points past it in the direction of a chain to which a straight way leaves each
+/// point taken so far on its side. Of the points taken only the tightest on either hand are kept.
 #[derive(Clone, Copy)]
 pub struct Wedge {
     frame: Frame,
@@ -28,7 +28,8 @@ pub struct Wedge {
 impl Wedge {
     ghost use Rattle.side_wedge.specs.Wedge.{Lets, StartsAt, IsPast, IsBesideWay};
 
-    /// A wedge at this start that lets every point. `rising` tells whether the chain rises in the order of the frame, or falls.
+    /// A wedge at this start that lets every point. `rising` tells whether the chain rises in the
+    /// order of the frame, or falls.
     pub fn start(frame: Frame, from: Point, rising: bool) -> Wedge
         ensures origin { StartsAt result frame rising from }
         ensures lets { (v : Place) → Lets result v }
@@ -42,12 +43,14 @@ impl Wedge {
         }
     }
 
-    /// From now on only those points are let that were let before, and that have p strictly on this side, above or below, of the
-    /// line through the start and them. The point p is strictly past the start in the chain's direction.
+    /// From now on only those points are let that were let before, and that have p strictly on this
+    /// side, above or below, of the line through the start and them. The point p is strictly past
+    /// the start in the chain's direction.
     pub fn take_point(&mut self, p: Point, side: Side)
         requires past { IsPast self.old p }
         requires side { IsAside side }
-        ensures lets { (v : Place) → IsPast self.new v → Lets self.new v ↔ (Lets self.old v × IsBesideWay self.old v p side) }
+        ensures lets { (v : Place) → IsPast self.new v → Lets self.new v
+            ↔ (Lets self.old v × IsBesideWay self.old v p side) }
         ensures origin { StartsAt self.new self.old.frame self.old.rising self.old.origin }
     {
         match hand_of(self.frame, self.rising, side) {
@@ -72,11 +75,13 @@ impl Wedge {
         leaves_none(self.origin, self.left, self.right)
     }
 
-    // Takes each of the points with these coordinates, which must stay on this hand of a way from the start.
+    // Takes each of the points with these coordinates, which must stay on this hand of a way from
+    // the start.
     pub(crate) fn take_points(&mut self, xs: &[i64], ys: &[i64], hand: Hand)
         requires coordinates { AreCoordinates xs.now ys.now }
         requires past { EachPlace (IsPast self.old) xs.now ys.now }
-        ensures lets { (v : Place) → IsPast self.new v → Lets self.new v ↔ (Lets self.old v × EachPlace (IsOnSide hand self.old.origin v) xs.now ys.now) }
+        ensures lets { (v : Place) → IsPast self.new v → Lets self.new v
+            ↔ (Lets self.old v × EachPlace (IsOnSide hand self.old.origin v) xs.now ys.now) }
         ensures origin { StartsAt self.new self.old.frame self.old.rising self.old.origin }
     {
         match hand {

@@ -1,5 +1,6 @@
 -- What a list holds, and what is kept or told of its elements.
-use Rattle.std.proofs.Common.{◌≡◌, ◌∙◌, ◌<◌, ℕ, zero, suc, Bool, true, false, cond, List, [], ◌∷◌, All, Contains, Option, Some, None, filter, length, map, arith, refl, ap, sym, subst}
+use Rattle.std.proofs.Common.{◌≡◌, ◌∙◌, ◌<◌, ℕ, zero, suc, Bool, true, false, cond, List, [], ◌∷◌, All, Contains, Option, Some, None}
+use Rattle.std.proofs.Common.{filter, length, map, arith, refl, ap, sym, subst}
 use Rattle.std.specs.List.{filter_map, cons_option}
 use Rattle.std.proofs.lemmas.Bool.{true≢false}
 use Rattle.std.proofs.lemmas.List.{get_or-map, length-map}
@@ -27,8 +28,10 @@ kept_later x y xs false held = held
 -- what passes is kept
 pub filter_holds : {X : Type 0} (p : X → Bool) (xs : List X) (x : X) → Contains xs x → p x ≡ true → Contains (filter p xs) x
 filter_holds p [] x held passes = absurd (omega (arith, held.1))
-filter_holds p (y ∷ xs) x (zero, within, same) passes = subst (λ z. Contains (filter p (z ∷ xs)) x) (sym same) (kept_first p x (filter p xs) (p x) passes refl)
-filter_holds p (y ∷ xs) x (suc k, within, same) passes = kept_later y x (filter p xs) (p y) (filter_holds p xs x (k, omega (arith, within), same) passes)
+filter_holds p (y ∷ xs) x (zero, within, same) passes = subst (λ z. Contains (filter p (z ∷ xs)) x) (sym same)
+    (kept_first p x (filter p xs) (p x) passes refl)
+filter_holds p (y ∷ xs) x (suc k, within, same) passes = kept_later y x (filter p xs) (p y)
+    (filter_holds p xs x (k, omega (arith, within), same) passes)
 
 -- ---- what is told
 
@@ -37,9 +40,11 @@ told_by P ys None each all = all
 told_by P ys (Some y) each all = All-cons P y ys (each y refl) all
 
 -- what is told of each element has what each telling has
-pub told : {X Y : Type 0} (P : Y → Type 0) (h : X → Option Y) (Q : X → Type 0) → ((x : X) (y : Y) → Q x → h x ≡ Some y → P y) → (xs : List X) → All Q xs → All P (filter_map h xs)
+pub told : {X Y : Type 0} (P : Y → Type 0) (h : X → Option Y) (Q : X → Type 0) → ((x : X) (y : Y) → Q x → h x ≡ Some y → P y)
+    → (xs : List X) → All Q xs → All P (filter_map h xs)
 told P h Q each [] all = All-nil P
-told P h Q each (x ∷ xs) all = told_by P (filter_map h xs) (h x) (λ y is. each x y (All-head Q x xs all) is) (told P h Q each xs (All-tail Q x xs all))
+told P h Q each (x ∷ xs) all = told_by P (filter_map h xs) (h x) (λ y is. each x y (All-head Q x xs all) is)
+    (told P h Q each xs (All-tail Q x xs all))
 
 holds_head : {Y : Type 0} (ys : List Y) (o : Option Y) (y : Y) → o ≡ Some y → Contains (cons_option o ys) y
 holds_head ys o y is = subst (λ p. Contains (cons_option p ys) y) (sym is) (0, omega arith, refl)
@@ -49,7 +54,9 @@ holds_rest ys None y held = held
 holds_rest ys (Some x) y held = (suc held.0, omega (arith, held.1), held.2)
 
 -- what an element of the list tells is told
-pub told_holds : {X Y : Type 0} (h : X → Option Y) (xs : List X) (x : X) (y : Y) → Contains xs x → h x ≡ Some y → Contains (filter_map h xs) y
+pub told_holds : {X Y : Type 0} (h : X → Option Y) (xs : List X) (x : X) (y : Y) → Contains xs x → h x ≡ Some y
+    → Contains (filter_map h xs) y
 told_holds h [] x y held is = absurd (omega (arith, held.1))
 told_holds h (z ∷ xs) x y (zero, within, same) is = holds_head (filter_map h xs) (h z) y (ap h same ∙ is)
-told_holds h (z ∷ xs) x y (suc k, within, same) is = holds_rest (filter_map h xs) (h z) y (told_holds h xs x y (k, omega (arith, within), same) is)
+told_holds h (z ∷ xs) x y (suc k, within, same) is = holds_rest (filter_map h xs) (h z) y
+    (told_holds h xs x y (k, omega (arith, within), same) is)

@@ -1,8 +1,10 @@
 -- The meetings of a map's things in bands: all things whose boxes meet, each two once.
-use Rattle.std.proofs.Common.{◌≡◌, ◌≢◌, ◌⊎◌, inl, inr, ◌∙◌, ◌/◌, ◌<◌, ◌≤◌, ◌&&◌, ◌==◌, nat_le, ℕ, zero, suc, true, List, [], ◌∷◌, All, AllPairs, Contains, length, get_or, map, min, max, arith, ap, sym, subst}
+use Rattle.std.proofs.Common.{◌≡◌, ◌≢◌, ◌⊎◌, inl, inr, ◌∙◌, ◌/◌, ◌<◌, ◌≤◌, ◌&&◌, ◌==◌, nat_le, ℕ, zero, suc, true, List, [], ◌∷◌, All}
+use Rattle.std.proofs.Common.{AllPairs, Contains, length, get_or, map, min, max, arith, ap, sym, subst}
 use Rattle.std.proofs.lemmas.Bool.{and_from, and_parts, cases_lt, eq-eqb, eqb-true, le-leb, leb-true}
 use Rattle.std.proofs.lemmas.List.{get_or-map, length-map}
-use Rattle.std.proofs.lemmas.List.Elements.{All-append, All-filter, All-head, All-map, All-nil, All-tail, All-weaker, Contains-append_left, Contains-append_right, at_from_Contains, filter_passes}
+use Rattle.std.proofs.lemmas.List.Elements.{All-append, All-filter, All-head, All-map, All-nil, All-tail, All-weaker, Contains-append_left}
+use Rattle.std.proofs.lemmas.List.Elements.{Contains-append_right, at_from_Contains, filter_passes}
 use Rattle.std.proofs.lemmas.List.Kept.{AllPairs-filter}
 use Rattle.arc_map.specs.Map.{Map}
 use Rattle.sweep_index.specs.Boxes.{RangesMeet}
@@ -25,7 +27,8 @@ pub record ThingsMeet (m : Map) (s t : Thing) : Type 0 where
 
 -- the lowest band that both things reach
 abbrev pub common_band : Map → ℕ → Thing → Thing → ℕ
-common_band m height s t = max (min (offset_of (thing_start m s).y) (offset_of (thing_end m s).y)) (min (offset_of (thing_start m t).y) (offset_of (thing_end m t).y)) / height
+common_band m height s t = max (min (offset_of (thing_start m s).y) (offset_of (thing_end m s).y))
+    (min (offset_of (thing_start m t).y) (offset_of (thing_end m t).y)) / height
 
 -- a meeting is of two things whose boxes meet, in their lowest common band
 pub record IsMeetingOf (m : Map) (height : ℕ) (p : Banded × Banded) : Type 0 where
@@ -33,27 +36,48 @@ pub record IsMeetingOf (m : Map) (height : ℕ) (p : Banded × Banded) : Type 0 
   pub first_band : p.0.band ≡ common_band m height p.0.thing p.1.thing
   pub second_band : p.1.band ≡ common_band m height p.0.thing p.1.thing
 
-parts_met : (height : ℕ) (b c : Banded) → is_met height (b, c) ≡ true → (c.band ≡ b.band) × (b.extent.west ≤ c.extent.east) × (c.extent.west ≤ b.extent.east) × (b.extent.south ≤ c.extent.north) × (c.extent.south ≤ b.extent.north) × (max b.extent.south c.extent.south / height ≡ b.band)
+parts_met : (height : ℕ) (b c : Banded) → is_met height (b, c) ≡ true
+    → (c.band ≡ b.band) × (b.extent.west ≤ c.extent.east) × (c.extent.west ≤ b.extent.east) × (b.extent.south ≤ c.extent.north)
+    × (c.extent.south ≤ b.extent.north) × (max b.extent.south c.extent.south / height ≡ b.band)
 parts_met height b c met =
     let outer = and_parts (c.band == b.band) (do_meet b.extent c.extent && (max b.extent.south c.extent.south / height == b.band)) met in
     let inner = and_parts (do_meet b.extent c.extent) (max b.extent.south c.extent.south / height == b.band) outer.1 in
-    let boxes = and_parts (nat_le b.extent.west c.extent.east && nat_le c.extent.west b.extent.east) (nat_le b.extent.south c.extent.north && nat_le c.extent.south b.extent.north) inner.0 in
+    let boxes = and_parts (nat_le b.extent.west c.extent.east && nat_le c.extent.west b.extent.east) (nat_le b.extent.south c.extent.north
+    && nat_le c.extent.south b.extent.north) inner.0 in
     let across = and_parts (nat_le b.extent.west c.extent.east) (nat_le c.extent.west b.extent.east) boxes.0 in
-    let up = and_parts (nat_le b.extent.south c.extent.north) (nat_le c.extent.south b.extent.north) boxes.1 in
-    (eqb-true c.band b.band outer.0, leb-true b.extent.west c.extent.east across.0, leb-true c.extent.west b.extent.east across.1, leb-true b.extent.south c.extent.north up.0, leb-true c.extent.south b.extent.north up.1, eqb-true (max b.extent.south c.extent.south / height) b.band inner.1)
+    let up = and_parts (nat_le b.extent.south c.extent.north) (nat_le c.extent.south b.extent.north) boxes.1 in (
+      eqb-true c.band b.band outer.0,
+      leb-true b.extent.west c.extent.east across.0,
+      leb-true c.extent.west b.extent.east across.1,
+      leb-true
+          b.extent.south c.extent.north up.0,
+      leb-true c.extent.south b.extent.north up.1,
+      eqb-true
+          (max b.extent.south c.extent.south / height) b.band inner.1,
+    )
 
-met_from_parts : (height : ℕ) (b c : Banded) → c.band ≡ b.band → b.extent.west ≤ c.extent.east → c.extent.west ≤ b.extent.east → b.extent.south ≤ c.extent.north → c.extent.south ≤ b.extent.north → max b.extent.south c.extent.south / height ≡ b.band → is_met height (b, c) ≡ true
+met_from_parts : (height : ℕ) (b c : Banded) → c.band ≡ b.band → b.extent.west ≤ c.extent.east → c.extent.west ≤ b.extent.east
+    → b.extent.south ≤ c.extent.north → c.extent.south ≤ b.extent.north → max b.extent.south c.extent.south / height ≡ b.band
+    → is_met height (b, c) ≡ true
 met_from_parts height b c bands west east south north level =
-    let across = and_from (nat_le b.extent.west c.extent.east) (nat_le c.extent.west b.extent.east) (le-leb b.extent.west c.extent.east west) (le-leb c.extent.west b.extent.east east) in
-    let up = and_from (nat_le b.extent.south c.extent.north) (nat_le c.extent.south b.extent.north) (le-leb b.extent.south c.extent.north south) (le-leb c.extent.south b.extent.north north) in
-    let boxes = and_from (nat_le b.extent.west c.extent.east && nat_le c.extent.west b.extent.east) (nat_le b.extent.south c.extent.north && nat_le c.extent.south b.extent.north) across up in
-    and_from (c.band == b.band) (do_meet b.extent c.extent && (max b.extent.south c.extent.south / height == b.band)) (eq-eqb c.band b.band bands)
-    (and_from (do_meet b.extent c.extent) (max b.extent.south c.extent.south / height == b.band) boxes (eq-eqb (max b.extent.south c.extent.south / height) b.band level))
+    let across = and_from (nat_le b.extent.west c.extent.east) (nat_le c.extent.west b.extent.east)
+    (le-leb b.extent.west c.extent.east west) (le-leb c.extent.west b.extent.east east) in
+    let up = and_from (nat_le b.extent.south c.extent.north) (nat_le c.extent.south b.extent.north)
+    (le-leb b.extent.south c.extent.north south) (le-leb c.extent.south b.extent.north north) in
+    let boxes = and_from (nat_le b.extent.west c.extent.east && nat_le c.extent.west b.extent.east) (nat_le b.extent.south c.extent.north
+    && nat_le c.extent.south b.extent.north) across up in
+    and_from (c.band == b.band) (do_meet b.extent c.extent && (max b.extent.south c.extent.south / height == b.band))
+    (eq-eqb c.band b.band bands)
+    (and_from (do_meet b.extent c.extent) (max b.extent.south c.extent.south / height == b.band) boxes
+    (eq-eqb (max b.extent.south c.extent.south / height) b.band level))
 
-band_of_two : (m : Map) (height : ℕ) (b c : Banded) → IsBandedOf m height b → IsBandedOf m height c → max b.extent.south c.extent.south / height ≡ common_band m height b.thing c.thing
-band_of_two m height b c first second = ap (λ k. max k c.extent.south / height) first.round.south ∙ ap (λ k. max (min (offset_of (thing_start m b.thing).y) (offset_of (thing_end m b.thing).y)) k / height) second.round.south
+band_of_two : (m : Map) (height : ℕ) (b c : Banded) → IsBandedOf m height b → IsBandedOf m height c
+    → max b.extent.south c.extent.south / height ≡ common_band m height b.thing c.thing
+band_of_two m height b c first second = ap (λ k. max k c.extent.south / height) first.round.south
+    ∙ ap (λ k. max (min (offset_of (thing_start m b.thing).y) (offset_of (thing_end m b.thing).y)) k / height) second.round.south
 
-meeting_of : (m : Map) (height : ℕ) (b c : Banded) → IsBandedOf m height b → IsBandedOf m height c → is_met height (b, c) ≡ true → IsMeetingOf m height (b, c)
+meeting_of : (m : Map) (height : ℕ) (b c : Banded) → IsBandedOf m height b → IsBandedOf m height c → is_met height (b, c) ≡ true
+    → IsMeetingOf m height (b, c)
 meeting_of m height b c first second met =
     let parts = parts_met height b c met in
     let r = first.round in
@@ -73,14 +97,19 @@ meeting_of m height b c first second met =
     let level = band_of_two m height b c first second in
     record {
       meet = record {
-        across = meet_from_overlap (thing_start m b.thing).x (thing_end m b.thing).x (thing_start m c.thing).x (thing_end m c.thing).x r.start_on_grid.across r.end_on_grid.across s.start_on_grid.across s.end_on_grid.across (omega (arith, west, r_west, s_east)) (omega (arith, east, s_west, r_east));
-        up = meet_from_overlap (thing_start m b.thing).y (thing_end m b.thing).y (thing_start m c.thing).y (thing_end m c.thing).y r.start_on_grid.up r.end_on_grid.up s.start_on_grid.up s.end_on_grid.up (omega (arith, south, r_south, s_north)) (omega (arith, north, s_south, r_north));
+        across = meet_from_overlap (thing_start m b.thing).x (thing_end m b.thing).x (thing_start m c.thing).x (thing_end m c.thing).x
+            r.start_on_grid.across r.end_on_grid.across s.start_on_grid.across s.end_on_grid.across (omega (arith, west, r_west, s_east))
+            (omega (arith, east, s_west, r_east));
+        up = meet_from_overlap (thing_start m b.thing).y (thing_end m b.thing).y (thing_start m c.thing).y (thing_end m c.thing).y
+            r.start_on_grid.up r.end_on_grid.up s.start_on_grid.up s.end_on_grid.up (omega (arith, south, r_south, s_north))
+            (omega (arith, north, s_south, r_north));
       };
       first_band = sym parts.5 ∙ level;
       second_band = parts.0 ∙ (sym parts.5 ∙ level);
     }
 
-met_of : (m : Map) (height : ℕ) (b c : Banded) → IsBandedOf m height b → IsBandedOf m height c → ThingsMeet m b.thing c.thing → b.band ≡ common_band m height b.thing c.thing → c.band ≡ common_band m height b.thing c.thing → is_met height (b, c) ≡ true
+met_of : (m : Map) (height : ℕ) (b c : Banded) → IsBandedOf m height b → IsBandedOf m height c → ThingsMeet m b.thing c.thing
+    → b.band ≡ common_band m height b.thing c.thing → c.band ≡ common_band m height b.thing c.thing → is_met height (b, c) ≡ true
 met_of m height b c first second meet here there =
     let r = first.round in
     let s = second.round in
@@ -100,7 +129,8 @@ met_of m height b c first second meet here there =
     let s_east = s.east in
     let s_south = s.south in
     let s_north = s.north in
-    met_from_parts height b c (there ∙ sym here) (omega (arith, west, r_west, s_east)) (omega (arith, east, s_west, r_east)) (omega (arith, south, r_south, s_north)) (omega (arith, north, s_south, r_north)) (band_of_two m height b c first second ∙ sym here)
+    met_from_parts height b c (there ∙ sym here) (omega (arith, west, r_west, s_east)) (omega (arith, east, s_west, r_east))
+    (omega (arith, south, r_south, s_north)) (omega (arith, north, s_south, r_north)) (band_of_two m height b c first second ∙ sym here)
 
 -- ---- what the meetings have
 
@@ -111,12 +141,14 @@ both_of Q height (e ∷ es) all =
     let head = All-head Q e es all in
     let rest = All-tail Q e es all in
     All-append (λ p. Q p.0 × Q p.1) (meetings_beside height e es 0) (meetings_of height es)
-    (All-filter (is_met height) (λ p. Q p.0 × Q p.1) (map (with_head e) es) (All-map (λ p. Q p.0 × Q p.1) (with_head e) es (λ k d within. (head, rest k d within))))
+    (All-filter (is_met height) (λ p. Q p.0 × Q p.1) (map (with_head e) es)
+    (All-map (λ p. Q p.0 × Q p.1) (with_head e) es (λ k d within. (head, rest k d within))))
     (both_of Q height es rest)
 
 each_met : (height : ℕ) (es : List Banded) → All (λ p. is_met height p ≡ true) (meetings_of height es)
 each_met height [] = All-nil (λ p. is_met height p ≡ true)
-each_met height (e ∷ es) = All-append (λ p. is_met height p ≡ true) (meetings_beside height e es 0) (meetings_of height es) (filter_passes (is_met height) (map (with_head e) es)) (each_met height es)
+each_met height (e ∷ es) = All-append (λ p. is_met height p ≡ true) (meetings_beside height e es 0) (meetings_of height es)
+    (filter_passes (is_met height) (map (with_head e) es)) (each_met height es)
 
 -- the spots of p are not those of q, in either order
 pub record IsElsewhere (p q : Banded × Banded) : Type 0 where
@@ -128,26 +160,34 @@ elsewhere height [] apart = pairs_nil IsElsewhere
 elsewhere height (e ∷ es) apart =
     let head : All (λ f. spot_of e ≢ spot_of f) es = pairs_head (λ e f. spot_of e ≢ spot_of f) e es apart in
     let rest : AllPairs (λ e f. spot_of e ≢ spot_of f) es = pairs_tail (λ e f. spot_of e ≢ spot_of f) e es apart in
-    let later : All (λ q. (spot_of e ≢ spot_of q.0) × (spot_of e ≢ spot_of q.1)) (meetings_of height es) = both_of (λ f. spot_of e ≢ spot_of f) height es head in
+    let later : All (λ q. (spot_of e ≢ spot_of q.0) × (spot_of e ≢ spot_of q.1)) (meetings_of height es) =
+    both_of (λ f. spot_of e ≢ spot_of f) height es head in
     pairs_append IsElsewhere (meetings_beside height e es 0) (meetings_of height es)
     (AllPairs-filter IsElsewhere (is_met height) (map (with_head e) es) (pairs_map IsElsewhere (with_head e) es
-    (λ i j d lt within. record { straight = λ first second. rest i j d lt within second; crossed = λ first second. head j d within first })))
+    (λ i j d lt within. record {
+      straight = λ first second. rest i j d lt within second;
+      crossed = λ first second.
+          head j d within first;
+    })))
     (elsewhere height es rest)
     (All-filter (is_met height) (λ p. All (IsElsewhere p) (meetings_of height es)) (map (with_head e) es)
     (All-map (λ p. All (IsElsewhere p) (meetings_of height es)) (with_head e) es
-    (λ k d within. All-weaker (λ q. (spot_of e ≢ spot_of q.0) × (spot_of e ≢ spot_of q.1)) (IsElsewhere (e, get_or es k d)) (λ q both. record { straight = λ first second. both.0 first; crossed = λ first second. both.1 first }) (meetings_of height es) later)))
+    (λ k d within. All-weaker (λ q. (spot_of e ≢ spot_of q.0) × (spot_of e ≢ spot_of q.1)) (IsElsewhere (e, get_or es k d)) (λ q both.
+    record { straight = λ first second. both.0 first; crossed = λ first second. both.1 first }) (meetings_of height es) later)))
 
 -- ---- all meetings
 
 -- two places of the list whose things meet are a meeting
-met_in : (height : ℕ) (es : List Banded) (i j : ℕ) (d : Banded) → i < j → j < length es → is_met height (get_or es i d, get_or es j d) ≡ true → Contains (meetings_of height es) (get_or es i d, get_or es j d)
+met_in : (height : ℕ) (es : List Banded) (i j : ℕ) (d : Banded) → i < j → j < length es
+    → is_met height (get_or es i d, get_or es j d) ≡ true → Contains (meetings_of height es) (get_or es i d, get_or es j d)
 met_in height [] i j d lt within met = absurd (omega (arith, within))
 met_in height (e ∷ es) i zero d lt within met = absurd (omega (arith, lt))
 met_in height (e ∷ es) zero (suc j) d lt within met =
     let inside : j < length es = omega (arith, within) in
     let long = length-map es (with_head e) in
     Contains-append_left (meetings_beside height e es 0) (meetings_of height es) (e, get_or es j d)
-    (filter_holds (is_met height) (map (with_head e) es) (e, get_or es j d) (j, omega (arith, inside, long), get_or-map (with_head e) es j d (e, get_or es j d) inside) met)
+    (filter_holds (is_met height) (map (with_head e) es) (e, get_or es j d)
+    (j, omega (arith, inside, long), get_or-map (with_head e) es j d (e, get_or es j d) inside) met)
 met_in height (e ∷ es) (suc i) (suc j) d lt within met =
     Contains-append_right (meetings_beside height e es 0) (meetings_of height es) (get_or es i d, get_or es j d)
     (met_in height es i j d (omega (arith, lt)) (omega (arith, within)) met)
@@ -168,7 +208,8 @@ spot_in things t band held =
     let found = at_from_Contains (map spot_of things) (t, band) held in
     let long = length-map things spot_of in
     let inside : found.0 < length things = omega (arith, long, found.1) in
-    let here : (d : Banded) → spot_of (get_or things found.0 d) ≡ (t, band) = λ d. sym (get_or-map spot_of things found.0 d (spot_of d) inside) ∙ found.2 (spot_of d) in
+    let here : (d : Banded) → spot_of (get_or things found.0 d) ≡ (t, band) = λ d.
+    sym (get_or-map spot_of things found.0 d (spot_of d) inside) ∙ found.2 (spot_of d) in
     record {
       at = found.0;
       within = inside;
@@ -189,8 +230,10 @@ module _ (m : Map) (height : ℕ) (things : List Banded) (tall : 0 < height) (ar
       let te = thing_end m t in
       let up = overlap_from_meet ts.y te.y ss.y se.y (meet_flips ss.y se.y ts.y te.y meet.up) in
       spot_in things s (common_band m height s t) (are.all s (common_band m height s t) thing
-      (div_rises (min (offset_of ss.y) (offset_of se.y)) (max (min (offset_of ss.y) (offset_of se.y)) (min (offset_of ts.y) (offset_of te.y))) height tall (omega arith))
-      (div_rises (max (min (offset_of ss.y) (offset_of se.y)) (min (offset_of ts.y) (offset_of te.y))) (max (offset_of ss.y) (offset_of se.y)) height tall (omega (arith, up))))
+      (div_rises (min (offset_of ss.y) (offset_of se.y)) (max (min (offset_of ss.y) (offset_of se.y))
+      (min (offset_of ts.y) (offset_of te.y))) height tall (omega arith))
+      (div_rises (max (min (offset_of ss.y) (offset_of se.y)) (min (offset_of ts.y) (offset_of te.y)))
+      (max (offset_of ss.y) (offset_of se.y)) height tall (omega (arith, up))))
 
   reaches_second : (s t : Thing) → IsThingOf m t → ThingsMeet m s t → IsSpotIn things t (common_band m height s t)
   reaches_second s t thing meet =
@@ -200,15 +243,20 @@ module _ (m : Map) (height : ℕ) (things : List Banded) (tall : 0 < height) (ar
       let te = thing_end m t in
       let up = overlap_from_meet ss.y se.y ts.y te.y meet.up in
       spot_in things t (common_band m height s t) (are.all t (common_band m height s t) thing
-      (div_rises (min (offset_of ts.y) (offset_of te.y)) (max (min (offset_of ss.y) (offset_of se.y)) (min (offset_of ts.y) (offset_of te.y))) height tall (omega arith))
-      (div_rises (max (min (offset_of ss.y) (offset_of se.y)) (min (offset_of ts.y) (offset_of te.y))) (max (offset_of ts.y) (offset_of te.y)) height tall (omega (arith, up))))
+      (div_rises (min (offset_of ts.y) (offset_of te.y)) (max (min (offset_of ss.y) (offset_of se.y))
+      (min (offset_of ts.y) (offset_of te.y))) height tall (omega arith))
+      (div_rises (max (min (offset_of ss.y) (offset_of se.y)) (min (offset_of ts.y) (offset_of te.y)))
+      (max (offset_of ts.y) (offset_of te.y)) height tall (omega (arith, up))))
 
   -- two spots of things that meet, one before the other
-  met_at : (s t : Thing) (i j : ℕ) (d : Banded) → i < j → j < length things → ThingsMeet m s t → (get_or things i d).thing ≡ s → (get_or things j d).thing ≡ t → (get_or things i d).band ≡ common_band m height s t → (get_or things j d).band ≡ common_band m height s t → Contains (meetings_of height things) (get_or things i d, get_or things j d)
+  met_at : (s t : Thing) (i j : ℕ) (d : Banded) → i < j → j < length things → ThingsMeet m s t → (get_or things i d).thing ≡ s
+      → (get_or things j d).thing ≡ t → (get_or things i d).band ≡ common_band m height s t
+      → (get_or things j d).band ≡ common_band m height s t → Contains (meetings_of height things) (get_or things i d, get_or things j d)
   met_at s t i j d lt within meet first second first_band second_band =
       let b = get_or things i d in
       let c = get_or things j d in
-      let level : common_band m height s t ≡ common_band m height b.thing c.thing = ap (λ u. common_band m height u t) (sym first) ∙ ap (common_band m height b.thing) (sym second) in
+      let level : common_band m height s t ≡ common_band m height b.thing c.thing = ap (λ u. common_band m height u t) (sym first)
+      ∙ ap (common_band m height b.thing) (sym second) in
       met_in height things i j d lt within
       (met_of m height b c (are.only i d (omega (arith, lt, within))).0 (are.only j d within).0
       (subst (ThingsMeet m b.thing) (sym second) (subst (λ u. ThingsMeet m u t) (sym first) meet))
@@ -228,17 +276,24 @@ module _ (m : Map) (height : ℕ) (things : List Banded) (tall : 0 < height) (ar
   }
 
   -- different things that meet are a meeting, in either order
-  pub meet_somewhere : (s t : Thing) → IsThingOf m s → IsThingOf m t → s ≢ t → ThingsMeet m s t → (p : Banded × Banded) × Contains (meetings_of height things) p × IsOfBoth s t p
+  pub meet_somewhere : (s t : Thing) → IsThingOf m s → IsThingOf m t → s ≢ t → ThingsMeet m s t
+      → (p : Banded × Banded) × Contains (meetings_of height things) p × IsOfBoth s t p
   meet_somewhere s t first second apart meet =
       let one = reaches_first s t first meet in
       let two = reaches_second s t second meet in
       let d = some_of things one.at one.within in
       let differ : one.at ≡ two.at → ⊥ = λ same. apart (sym (one.thing d) ∙ (ap (λ k. (get_or things k d).thing) same ∙ two.thing d)) in
       elim (cases_lt one.at two.at) [
-        | inl lt ↦ ((get_or things one.at d, get_or things two.at d), met_at s t one.at two.at d lt two.within meet (one.thing d) (two.thing d) (one.level d) (two.level d), inl (one.thing d, two.thing d))
+        | inl lt ↦ (
+          (get_or things one.at d, get_or things two.at d),
+          met_at s t one.at two.at d lt two.within meet (one.thing d)
+              (two.thing d) (one.level d) (two.level d),
+          inl (one.thing d, two.thing d),
+        )
         | inr ge ↦ (
           (get_or things two.at d, get_or things one.at d),
-          met_at t s two.at one.at d (omega (arith, ge, differ)) one.within (things_flip s t meet) (two.thing d) (one.thing d) (two.level d ∙ common_flips s t) (one.level d ∙ common_flips s t),
+          met_at t s two.at one.at d (omega (arith, ge, differ)) one.within (things_flip s t meet) (two.thing d) (one.thing d) (two.level d
+              ∙ common_flips s t) (one.level d ∙ common_flips s t),
           inr (two.thing d, one.thing d),
         )
       ]
@@ -261,12 +316,15 @@ module _ (m : Map) (height : ℕ) (things : List Banded) (tall : 0 < height) (ar
       let apart = elsewhere height things (pairs_from_map (λ s t. s ≢ t) spot_of things are.once) i j d lt within in
       elim same [
         | inl straight ↦
-            let level : common_band m height p.0.thing p.1.thing ≡ common_band m height q.0.thing q.1.thing = ap (λ u. common_band m height u p.1.thing) straight.0 ∙ ap (common_band m height q.0.thing) straight.1 in
+            let level : common_band m height p.0.thing p.1.thing ≡ common_band m height q.0.thing q.1.thing =
+            ap (λ u. common_band m height u p.1.thing) straight.0 ∙ ap (common_band m height q.0.thing) straight.1 in
             apart.straight
             (same_spot p.0 q.0 straight.0 (first.first_band ∙ (level ∙ sym second.first_band)))
             (same_spot p.1 q.1 straight.1 (first.second_band ∙ (level ∙ sym second.second_band)))
         | inr crossed ↦
-            let level : common_band m height p.0.thing p.1.thing ≡ common_band m height q.0.thing q.1.thing = ap (λ u. common_band m height u p.1.thing) crossed.0 ∙ (ap (common_band m height q.1.thing) crossed.1 ∙ common_flips q.1.thing q.0.thing) in
+            let level : common_band m height p.0.thing p.1.thing ≡ common_band m height q.0.thing q.1.thing =
+            ap (λ u. common_band m height u p.1.thing) crossed.0
+            ∙ (ap (common_band m height q.1.thing) crossed.1 ∙ common_flips q.1.thing q.0.thing) in
             apart.crossed
             (same_spot p.0 q.1 crossed.0 (first.first_band ∙ (level ∙ sym second.second_band)))
             (same_spot p.1 q.0 crossed.1 (first.second_band ∙ (level ∙ sym second.first_band)))

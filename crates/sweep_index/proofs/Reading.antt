@@ -19,11 +19,15 @@ pub some_position : (ps : List Place) → IsArc ps → 0 < length ps
 some_position [] is_arc = absurd is_arc
 some_position (p ∷ ps) is_arc = omega arith
 
-position_read : (m : Map) (arc at : ℕ) (ps : List Place) (p : Place) → slice_get m.arcs arc ≡ Some ps → at < length ps → p ≡ get_or ps at p → p ≡ get_or (arc_at m arc) at nowhere
-position_read m arc at ps p is within read = read ∙ (get_or_default ps at p nowhere within ∙ ap (λ qs. get_or qs at nowhere) (sym (arc_is m arc ps is)))
+position_read : (m : Map) (arc at : ℕ) (ps : List Place) (p : Place) → slice_get m.arcs arc ≡ Some ps → at < length ps → p ≡ get_or ps at p
+    → p ≡ get_or (arc_at m arc) at nowhere
+position_read m arc at ps p is within read = read ∙ (get_or_default ps at p nowhere within
+    ∙ ap (λ qs. get_or qs at nowhere) (sym (arc_is m arc ps is)))
 
 -- the box round two neighbours of an arc, as they are read at a place and at the one before it
-pub round_edge : (m : Map) (arc at : ℕ) (ps : List Place) (p q : Place) (extent : Extent) → slice_get m.arcs arc ≡ Some ps → 1 ≤ at → at < length ps → p ≡ get_or ps (at - 1) p → q ≡ get_or ps at q → IsRound p q extent → IsRound (edge_start m (record { arc = arc; at = at - 1 })) (edge_end m (record { arc = arc; at = at - 1 })) extent
+pub round_edge : (m : Map) (arc at : ℕ) (ps : List Place) (p q : Place) (extent : Extent) → slice_get m.arcs arc ≡ Some ps → 1 ≤ at
+    → at < length ps → p ≡ get_or ps (at - 1) p → q ≡ get_or ps at q → IsRound p q extent
+    → IsRound (edge_start m (record { arc = arc; at = at - 1 })) (edge_end m (record { arc = arc; at = at - 1 })) extent
 round_edge m arc at ps p q extent is some within first second round =
     let next : at ≡ at - 1 + 1 = omega (arith, some) in
     let start = position_read m arc (at - 1) ps p is (omega (arith, within)) first in
@@ -31,5 +35,6 @@ round_edge m arc at ps p q extent is some within first second round =
     subst (λ a. IsRound a (edge_end m (record { arc = arc; at = at - 1 })) extent) start (subst (λ b. IsRound p b extent) stop round)
 
 -- the box round a feature point
-pub round_point : (m : Map) (k : ℕ) (p : Place) (extent : Extent) → slice_get m.points k ≡ Some p → IsRound p p extent → IsRound (get_or m.points k nowhere) (get_or m.points k nowhere) extent
+pub round_point : (m : Map) (k : ℕ) (p : Place) (extent : Extent) → slice_get m.points k ≡ Some p → IsRound p p extent
+    → IsRound (get_or m.points k nowhere) (get_or m.points k nowhere) extent
 round_point m k p extent is round = subst (λ a. IsRound a a extent) (sym (get_or_from_slice_get m.points k p nowhere is)) round

@@ -9,7 +9,8 @@ do_meet e f = (nat_le e.west f.east && nat_le f.west e.east) && (nat_le e.south 
 
 -- the things meet, and this band of both is the lowest such band
 abbrev pub is_met : ℕ → Banded × Banded → Bool
-is_met height pair = (pair.1.band == pair.0.band) && (do_meet pair.0.extent pair.1.extent && (max pair.0.extent.south pair.1.extent.south / height == pair.0.band))
+is_met height pair = (pair.1.band == pair.0.band) && (do_meet pair.0.extent pair.1.extent
+    && (max pair.0.extent.south pair.1.extent.south / height == pair.0.band))
 
 -- the second thing is in another band, or past the east of the first
 abbrev pub is_behind : Banded → Banded → Bool

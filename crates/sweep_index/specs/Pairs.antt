@@ -1,5 +1,6 @@
 -- What meetings tell of edges and feature points.
-use Rattle.std.specs.Prelude.{◌<◌, ◌≢◌, IsTrue, length, get_or, All, AllPairs, Contains, ◌&&◌, ◌||◌, ◌==◌, nat_lt, ℕ, Bool, if◌then◌else◌, List, Option, Some, None}
+use Rattle.std.specs.Prelude.{◌<◌, ◌≢◌, IsTrue, length, get_or, All, AllPairs, Contains, ◌&&◌, ◌||◌, ◌==◌, nat_lt, ℕ, Bool, if◌then◌else◌}
+use Rattle.std.specs.Prelude.{List, Option, Some, None}
 use Rattle.std.specs.List.{filter_map}
 use Rattle.arc_map.specs.Map.{Map}
 use Rattle.arc_map.specs.Arranged.{IsMapEdge, IsEarlier, nowhere}

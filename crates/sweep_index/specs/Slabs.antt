@@ -52,7 +52,8 @@ last_slab m width e = max (offset_of (edge_start m e).x) (offset_of (edge_end m 
 
 -- these are the edges of the map before this place of this arc, in each slab that their x ranges reach, each once
 abbrev pub AreEdgesBefore : Map → ℕ → ℕ → ℕ → List Slabbed → Type 0
-AreEdgesBefore m width arc at edges = AreGathered place_of (IsSlabbedOf m) (λ e. IsMapEdge m e × IsEdgeBefore arc at e) (first_slab m width) (last_slab m width) edges
+AreEdgesBefore m width arc at edges = AreGathered place_of (IsSlabbedOf m) (λ e. IsMapEdge m e × IsEdgeBefore arc at e) (first_slab m width)
+    (last_slab m width) edges
 
 -- these are the edges of the map, in each slab that their x ranges reach, each once
 abbrev pub AreEdgesOf : Map → ℕ → List Slabbed → Type 0

@@ -61,7 +61,8 @@ IsThingBefore arc at town (Town k) = k < town
 
 -- these are such things of the map, in each band that their boxes reach, each once
 abbrev pub AreBefore : Map → ℕ → ℕ → ℕ → ℕ → List Banded → Type 0
-AreBefore m height arc at town things = AreGathered spot_of (IsBandedOf m height) (λ t. IsThingOf m t × IsThingBefore arc at town t) (lowest_band m height) (highest_band m height) things
+AreBefore m height arc at town things = AreGathered spot_of (IsBandedOf m height) (λ t. IsThingOf m t × IsThingBefore arc at town t)
+    (lowest_band m height) (highest_band m height) things
 
 -- these are all things of the map, in each band that their boxes reach, each once
 abbrev pub AreOf : Map → ℕ → List Banded → Type 0

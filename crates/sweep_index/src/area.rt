@@ -12,7 +12,8 @@ pub struct Area {
     pub south: i64,
     pub east: i64,
     pub north: i64,
-    pub ghost on_grid: { IsGridNumber west × IsGridNumber south × IsGridNumber east × IsGridNumber north },
+    pub ghost on_grid: { IsGridNumber west × IsGridNumber south × IsGridNumber east
+        × IsGridNumber north },
 }
 
 impl Area {

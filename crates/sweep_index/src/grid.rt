@@ -20,7 +20,8 @@ pub fn offset(z: i64) -> u32
     (z + REACH) as u32
 }
 
-// Rows and columns of square cells, with the corner of the first one. What lies outside counts to the cells at the rim.
+// Rows and columns of square cells, with the corner of the first one. What lies outside counts to
+// the cells at the rim.
 #[derive(Clone, Copy)]
 pub struct Grid {
     west: u32,

@@ -1,5 +1,6 @@
 //! The edges of a map by the x that they span.
-ghost use Rattle.std.specs.Prelude.{◌≡◌, ◌<◌, ◌+◌, ◌-◌, ◌/◌, ◌++◌, ◌↔◌, IsTrue, IfOk, OnOk, IfSome, IfNone, length, ◌∷◌, []};
+ghost use Rattle.std.specs.Prelude.{◌≡◌, ◌<◌, ◌+◌, ◌-◌, ◌/◌, ◌++◌, ◌↔◌, IsTrue, IfOk, OnOk, IfSome};
+ghost use Rattle.std.specs.Prelude.{IfNone, length, ◌∷◌, []};
 ghost use Rattle.std.specs.List.Sorted.{IsNonDecreasingBy};
 ghost use Rattle.grid_exact.specs.Geometry.{IsGridNumber};
 ghost use Rattle.arc_map.specs.Map.{Map};
@@ -110,7 +111,9 @@ fn push_edge(
     width: u32,
 ) -> Result<(), AllocError>
     requires { 0 < width }
-    ensures { OnOk result (edges.new.items ≡ edges.old.items ++ made_over (λ slab. record { slab = slab; west = west; east = east; edge = edge }) (west / width) (east / width + 1 - west / width)) }
+    ensures { OnOk result (edges.new.items ≡ edges.old.items
+        ++ made_over (λ slab. record { slab = slab; west = west; east = east; edge = edge })
+        (west / width) (east / width + 1 - west / width)) }
 {
     for slab in west / width..=east / width {
         edges.push(Slabbed {

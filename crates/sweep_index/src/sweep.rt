@@ -1,5 +1,6 @@
 //! The sweep over things in bands: which boxes meet.
-ghost use Rattle.std.specs.Prelude.{◌≡◌, ◌≤◌, ◌<◌, ◌∷◌, [], ℕ, true, length, slice_index_or, IfSome, IfNone};
+ghost use Rattle.std.specs.Prelude.{◌≡◌, ◌≤◌, ◌<◌, ◌∷◌, [], ℕ, true, length, slice_index_or};
+ghost use Rattle.std.specs.Prelude.{IfSome, IfNone};
 ghost use Rattle.std.specs.List.Sorted.{IsNonDecreasingBy};
 ghost use Rattle.sweep_index.specs.Things.{key_of};
 ghost use Rattle.sweep_index.specs.declared.things.Banded.{Banded};
@@ -7,7 +8,8 @@ ghost use Rattle.sweep_index.specs.Meetings.{is_behind, is_met};
 
 use crate::things::Banded;
 
-// Pairs of things in one band whose boxes meet. A pair that meets in several bands comes in the lowest of them alone.
+// Pairs of things in one band whose boxes meet. A pair that meets in several bands comes in the
+// lowest of them alone.
 #[derive(Clone, Copy)]
 pub struct Sweep<'a> {
     // The first of these is compared with the others after it, of which so many are passed already.
@@ -23,7 +25,8 @@ impl<'a> Sweep<'a> {
 
     // The next pair, and the sweep after it.
     pub fn next_meeting(self) -> Option<(Banded, Banded, Sweep<'a>)>
-        ensures steps { IfSome result (λ r. meetings_left self.entry ≡ (r.0, r.1) ∷ meetings_left r.2) }
+        ensures steps { IfSome result (λ r. meetings_left self.entry ≡ (r.0, r.1)
+            ∷ meetings_left r.2) }
         ensures none { IfNone result (meetings_left self.entry ≡ []) }
     {
         let height = self.height;
@@ -45,14 +48,18 @@ impl<'a> Sweep<'a> {
     }
 }
 
-// The place of the first of the others from `from` on that meets the head in this band, if one does.
+// The place of the first of the others from `from` on that meets the head in this band, if one
+// does.
 fn first_met(head: &Banded, others: &[Banded], from: usize, height: u32) -> Option<usize>
     requires high { 0 < height }
     requires sorted { IsNonDecreasingBy key_of (head.now ∷ others.now) }
     ensures within { IfSome result (λ k. (from ≤ k) × (k < length others.now)) }
-    ensures found { IfSome result (λ k. (d : Banded) → is_met height (head.now, slice_index_or others.now k d) ≡ true) }
-    ensures none_before { IfSome result (λ n. (k : ℕ) → from ≤ k → k < n → ¬ ((d : Banded) → is_met height (head.now, slice_index_or others.now k d) ≡ true)) }
-    ensures none { IfNone result ((k : ℕ) → from ≤ k → k < length others.now → ¬ ((d : Banded) → is_met height (head.now, slice_index_or others.now k d) ≡ true)) }
+    ensures found { IfSome result (λ k. (d : Banded)
+        → is_met height (head.now, slice_index_or others.now k d) ≡ true) }
+    ensures none_before { IfSome result (λ n. (k : ℕ) → from ≤ k → k < n
+        → ¬ ((d : Banded) → is_met height (head.now, slice_index_or others.now k d) ≡ true)) }
+    ensures none { IfNone result ((k : ℕ) → from ≤ k → k < length others.now
+        → ¬ ((d : Banded) → is_met height (head.now, slice_index_or others.now k d) ≡ true)) }
 {
     for k in from..others.len() {
         let other = &others[k];

@@ -3,14 +3,16 @@ ghost use Rattle.std.specs.Prelude.{◌≡◌, [], ◌∷◌, ◌+◌, ◌<◌, 
 ghost use Rattle.sweep_index.specs.Area.{lowest, highest};
 ghost use Rattle.sweep_index.specs.Cells.{row_of};
 ghost use Rattle.sweep_index.specs.Items.{is_found};
-ghost use Rattle.sweep_index.specs.Search.{IsByCells, IsNumbered, IsFoundAt, IsPassed, IsAhead, IsCursor, items_from, numbered_of};
+ghost use Rattle.sweep_index.specs.Search.{IsByCells, IsNumbered, IsFoundAt, IsPassed, IsAhead};
+ghost use Rattle.sweep_index.specs.Search.{IsCursor, items_from, numbered_of};
 
 use crate::area::Area;
 use crate::entries::Entry;
 use crate::grid::Grid;
 use crate::index::Item;
 
-// The entries from `at` on are still to be looked at, of them those below `end` in this row of cells.
+// The entries from `at` on are still to be looked at, of them those below `end` in this row of
+// cells.
 #[derive(Clone, Copy)]
 struct Cursor {
     row: u32,
@@ -33,8 +35,12 @@ pub struct Search<'a> {
 impl<'a> Search<'a> {
     // Where the walk over the box begins.
     fn first_cursor(&self) -> Cursor
-        ensures start { items_from self.now.entries.now self.now.live.now (lowest self.now.area) (highest self.now.area) result.at ≡ items_from self.now.entries.now self.now.live.now (lowest self.now.area) (highest self.now.area) 0 }
-        ensures valid { IsCursor self.now.grid self.now.entries.now self.now.live.now (lowest self.now.area) (highest self.now.area) result.row result.end }
+        ensures start { items_from self.now.entries.now self.now.live.now (lowest self.now.area)
+            (highest self.now.area) result.at
+            ≡ items_from self.now.entries.now self.now.live.now (lowest self.now.area)
+            (highest self.now.area) 0 }
+        ensures valid { IsCursor self.now.grid self.now.entries.now self.now.live.now
+            (lowest self.now.area) (highest self.now.area) result.row result.end }
     {
         let row = self.grid.row(self.area.south);
         let (at, end) = self.places_in(row);
@@ -43,10 +49,16 @@ impl<'a> Search<'a> {
 
     // The first item from the cursor on, with the cursor after it.
     fn next_from(&self, cursor: Cursor) -> Option<((u32, Item), Cursor)>
-        requires { IsCursor self.now.grid self.now.entries.now self.now.live.now (lowest self.now.area) (highest self.now.area) cursor.row cursor.end }
-        ensures steps { IfSome result (λ r. items_from self.now.entries.now self.now.live.now (lowest self.now.area) (highest self.now.area) cursor.at ≡ r.0 ∷ items_from self.now.entries.now self.now.live.now (lowest self.now.area) (highest self.now.area) r.1.at) }
-        ensures valid { IfSome result (λ r. IsCursor self.now.grid self.now.entries.now self.now.live.now (lowest self.now.area) (highest self.now.area) r.1.row r.1.end) }
-        ensures none { IfNone result (items_from self.now.entries.now self.now.live.now (lowest self.now.area) (highest self.now.area) cursor.at ≡ []) }
+        requires { IsCursor self.now.grid self.now.entries.now self.now.live.now
+            (lowest self.now.area) (highest self.now.area) cursor.row cursor.end }
+        ensures steps { IfSome result (λ r. items_from self.now.entries.now self.now.live.now
+            (lowest self.now.area) (highest self.now.area) cursor.at ≡ r.0
+            ∷ items_from self.now.entries.now self.now.live.now (lowest self.now.area)
+            (highest self.now.area) r.1.at) }
+        ensures valid { IfSome result (λ r. IsCursor self.now.grid self.now.entries.now
+            self.now.live.now (lowest self.now.area) (highest self.now.area) r.1.row r.1.end) }
+        ensures none { IfNone result (items_from self.now.entries.now self.now.live.now
+            (lowest self.now.area) (highest self.now.area) cursor.at ≡ []) }
     {
         let Cursor {
             mut row,
@@ -77,8 +89,10 @@ impl<'a> Search<'a> {
     // The places of the entries in the row's cells between the columns of the box.
     fn places_in(&self, row: u32) -> (usize, usize)
         requires { row < self.now.grid.rows }
-        ensures ahead { IsAhead self.now.grid self.now.entries.now self.now.live.now (lowest self.now.area) (highest self.now.area) result.0 row }
-        ensures passed { IsPassed self.now.grid self.now.entries.now self.now.live.now (lowest self.now.area) (highest self.now.area) result.1 row }
+        ensures ahead { IsAhead self.now.grid self.now.entries.now self.now.live.now
+            (lowest self.now.area) (highest self.now.area) result.0 row }
+        ensures passed { IsPassed self.now.grid self.now.entries.now self.now.live.now
+            (lowest self.now.area) (highest self.now.area) result.1 row }
         ensures begin { result.0 ≤ length self.now.entries.now }
         ensures end { result.1 ≤ length self.now.entries.now }
     {
@@ -93,9 +107,15 @@ impl<'a> Search<'a> {
     // The first place from `at` on, and below `end`, whose entry is live and in the box.
     fn first_found(&self, at: usize, end: usize) -> Option<usize>
         requires { end ≤ length self.now.entries.now }
-        ensures found { IfSome result (λ k. (at ≤ k) × (k < end) × IsFoundAt self.now.entries.now self.now.live.now (lowest self.now.area) (highest self.now.area) k) }
-        ensures none_before { IfSome result (λ n. (k : ℕ) → at ≤ k → k < n → ¬ (IsFoundAt self.now.entries.now self.now.live.now (lowest self.now.area) (highest self.now.area) k)) }
-        ensures none { IfNone result ((k : ℕ) → at ≤ k → k < end → ¬ (IsFoundAt self.now.entries.now self.now.live.now (lowest self.now.area) (highest self.now.area) k)) }
+        ensures found { IfSome result (λ k. (at ≤ k) × (k < end)
+            × IsFoundAt self.now.entries.now self.now.live.now (lowest self.now.area)
+            (highest self.now.area) k) }
+        ensures none_before { IfSome result (λ n. (k : ℕ) → at ≤ k → k < n
+            → ¬ (IsFoundAt self.now.entries.now self.now.live.now (lowest self.now.area)
+            (highest self.now.area) k)) }
+        ensures none { IfNone result ((k : ℕ) → at ≤ k → k < end
+            → ¬ (IsFoundAt self.now.entries.now self.now.live.now (lowest self.now.area)
+            (highest self.now.area) k)) }
     {
         for k in at..end {
             if self.finds(&self.entries[k]) {
@@ -108,7 +128,8 @@ impl<'a> Search<'a> {
     // Whether the entry's item is live and in the box.
     fn finds(&self, entry: &Entry) -> bool
         requires { entry.now.number < length self.now.live.now }
-        ensures { result ≡ is_found self.now.live.now (lowest self.now.area) (highest self.now.area) (numbered_of entry.now) }
+        ensures { result ≡ is_found self.now.live.now (lowest self.now.area) (highest self.now.area)
+            (numbered_of entry.now) }
     {
         self.area.holds(entry.item.at) && self.live[entry.number as usize]
     }
@@ -119,7 +140,8 @@ impl<'a> Search<'a> {
 pub struct Walk<'a> {
     search: Search<'a>,
     cursor: Cursor,
-    ghost valid: { IsCursor search.grid search.entries.now search.live.now (lowest search.area) (highest search.area) cursor.row cursor.end },
+    ghost valid: { IsCursor search.grid search.entries.now search.live.now (lowest search.area)
+        (highest search.area) cursor.row cursor.end },
 }
 
 impl<'a> Walk<'a> {

@@ -65,9 +65,11 @@ coded-small false p q a b = place-small q b
 small-spelled : (w : Place) → IsSmallPair w → Spelled (IsPairTree w) 1 (position_text w)
 small-spelled w small = pair-spelled w small.across small.up
 
-written-spelled : (coded : Bool) (p : Place) (qs : List Place) → IsGridPlace p → AllByRecursion IsGridPlace qs → AllByRecursion (λ w. Spelled (IsPairTree w) 1 (position_text w)) (written coded p qs)
+written-spelled : (coded : Bool) (p : Place) (qs : List Place) → IsGridPlace p → AllByRecursion IsGridPlace qs
+    → AllByRecursion (λ w. Spelled (IsPairTree w) 1 (position_text w)) (written coded p qs)
 written-spelled coded p [] grid each = tt
-written-spelled coded p (q ∷ qs) grid each = (small-spelled (coded_position coded p q) (coded-small coded p q grid each.0), written-spelled coded q qs each.0 each.1)
+written-spelled coded p (q ∷ qs) grid each =
+    (small-spelled (coded_position coded p q) (coded-small coded p q grid each.0), written-spelled coded q qs each.0 each.1)
 
 following-grid : (p : Place) (ps : List Place) → IsGridPlace p → AllByRecursion IsGridPlace ps → AllByRecursion IsGridPlace (following p ps)
 following-grid p [] grid each = (grid, tt)
@@ -77,12 +79,16 @@ arc-spelled : (coded : Bool) (arc : List Place) → IsGridArc arc → Spelled (I
 arc-spelled coded [] is = absurd is.is_arc
 arc-spelled coded (p ∷ ps) is =
     let rest = written coded p (following p ps) in
-    subst (λ (qs : List Place). Spelled (IsWrittenArc coded (p ∷ ps)) 2 (list_text (map position_text (p ∷ qs)))) (sym (coded-written coded p (following p ps)))
-    (list-spelled IsPairTree position_text 1 p rest (small-spelled p (place-small p is.grid.0)) (written-spelled coded p (following p ps) is.grid.0 (following-grid p ps is.grid.0 is.grid.1)))
+    subst (λ (qs : List Place). Spelled (IsWrittenArc coded (p ∷ ps)) 2 (list_text (map position_text (p ∷ qs))))
+    (sym (coded-written coded p (following p ps)))
+    (list-spelled IsPairTree position_text 1 p rest (small-spelled p (place-small p is.grid.0))
+    (written-spelled coded p (following p ps) is.grid.0 (following-grid p ps is.grid.0 is.grid.1)))
 
-each-spelled : (coded : Bool) (arcs : List (List Place)) → AllByRecursion IsGridArc arcs → AllByRecursion (λ arc. Spelled (IsWrittenArc coded arc) 2 (arc_text coded arc)) arcs
+each-spelled : (coded : Bool) (arcs : List (List Place)) → AllByRecursion IsGridArc arcs
+    → AllByRecursion (λ arc. Spelled (IsWrittenArc coded arc) 2 (arc_text coded arc)) arcs
 each-spelled coded [] each = tt
 each-spelled coded (arc ∷ arcs) each = (arc-spelled coded arc each.0, each-spelled coded arcs each.1)
 
-pub arcs-spelled : (coded : Bool) (arcs : List (List Place)) → AllByRecursion IsGridArc arcs → Spelled (IsListTree (AreTrees (IsWrittenArc coded) arcs)) 3 (list_text (map (arc_text coded) arcs))
+pub arcs-spelled : (coded : Bool) (arcs : List (List Place)) → AllByRecursion IsGridArc arcs
+    → Spelled (IsListTree (AreTrees (IsWrittenArc coded) arcs)) 3 (list_text (map (arc_text coded) arcs))
 arcs-spelled coded arcs each = any_list-spelled (IsWrittenArc coded) (arc_text coded) 2 arcs (each-spelled coded arcs each)

@@ -19,7 +19,8 @@ EachStands [] (b ∷ bs) = ⊥
 EachStands (a ∷ rest) [] = ⊥
 EachStands (a ∷ rest) (b ∷ bs) = StandsFor a b × EachStands rest bs
 
-each-stands : (arcs others : List (List Place)) → length others ≡ length arcs → ((k : ℕ) → k < length arcs → StandsFor (get_or arcs k []) (get_or others k [])) → EachStands arcs others
+each-stands : (arcs others : List (List Place)) → length others ≡ length arcs
+    → ((k : ℕ) → k < length arcs → StandsFor (get_or arcs k []) (get_or others k [])) → EachStands arcs others
 each-stands [] [] count stands = tt
 each-stands [] (b ∷ bs) count stands = absurd (omega (arith, count))
 each-stands (a ∷ rest) [] count stands = absurd (omega (arith, count))
@@ -33,7 +34,8 @@ each-stands (a ∷ rest) (b ∷ bs) count stands =
 stands-grid : (a b : List Place) → IsGridArc a → StandsFor a b → IsGridArc b
 stands-grid a b is stands = record {
   is_arc = stands.is_arc;
-  grid = recursion_from_All IsGridPlace b (λ k d below. All-contains IsGridPlace a (get_or b k d) (All-from_recursion IsGridPlace a is.grid) (stands.places k d below));
+  grid = recursion_from_All IsGridPlace b (λ k d below. All-contains IsGridPlace a (get_or b k d) (All-from_recursion IsGridPlace a is.grid)
+      (stands.places k d below));
 }
 
 all-grid : (arcs others : List (List Place)) → AllByRecursion IsGridArc arcs → EachStands arcs others → AllByRecursion IsGridArc others
@@ -50,7 +52,8 @@ no-longer (p ∷ []) (q ∷ r ∷ rs) is are short = absurd (omega (arith, short
 no-longer (p ∷ v ∷ vs) (q ∷ []) is are short = omega arith
 no-longer (p ∷ v ∷ vs) (q ∷ r ∷ rs) is are short = omega (arith, short)
 
-fewer-written : (arcs others : List (List Place)) → AllByRecursion IsGridArc arcs → EachStands arcs others → sum_by written_length others ≤ sum_by written_length arcs
+fewer-written : (arcs others : List (List Place)) → AllByRecursion IsGridArc arcs → EachStands arcs others
+    → sum_by written_length others ≤ sum_by written_length arcs
 fewer-written [] [] each stands = omega arith
 fewer-written [] (b ∷ bs) each stands = absurd stands
 fewer-written (a ∷ rest) [] each stands = absurd stands
@@ -61,10 +64,13 @@ fewer-written (a ∷ rest) (b ∷ bs) each stands =
 
 -- ---- named as before
 
-same-ends : (k : ℕ) (a b : List Place) → StandsFor a b → (Some (forwards k a) ≡ Some (forwards k b)) × (Some (backwards k a) ≡ Some (backwards k b))
+same-ends : (k : ℕ) (a b : List Place) → StandsFor a b → (Some (forwards k a) ≡ Some (forwards k b))
+    × (Some (backwards k a) ≡ Some (backwards k b))
 same-ends k a b stands = rw (stands.first, stands.last) (refl, refl)
 
-same-named : (k j : ℕ) (arcs others : List (List Place)) → EachStands arcs others → (option_map (forwards j) (slice_get arcs k) ≡ option_map (forwards j) (slice_get others k)) × (option_map (backwards j) (slice_get arcs k) ≡ option_map (backwards j) (slice_get others k))
+same-named : (k j : ℕ) (arcs others : List (List Place)) → EachStands arcs others
+    → (option_map (forwards j) (slice_get arcs k) ≡ option_map (forwards j) (slice_get others k))
+    × (option_map (backwards j) (slice_get arcs k) ≡ option_map (backwards j) (slice_get others k))
 same-named k j [] [] stands = (refl, refl)
 same-named k j [] (b ∷ bs) stands = absurd stands
 same-named k j (a ∷ rest) [] stands = absurd stands
@@ -80,7 +86,11 @@ pub fitting : (m new : Map) → CanBeWritten m.arcs → FitsIn m new → IsFitti
 fitting m new can fits =
     let stands = each-stands m.arcs new.arcs fits.count fits.arcs in
     record {
-      steps = record { forward = λ k. (same-named k k m.arcs new.arcs stands).0; backward = λ k. (same-named k k m.arcs new.arcs stands).1 };
+      steps = record {
+        forward = λ k. (same-named k k m.arcs new.arcs stands).0;
+        backward = λ k.
+            (same-named k k m.arcs new.arcs stands).1;
+      };
       written = record {
         each = all-grid m.arcs new.arcs can.each stands;
         few = omega (arith, fits.count, can.few);

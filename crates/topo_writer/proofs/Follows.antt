@@ -23,29 +23,35 @@ same-ends (Err f) y a same h = absurd cc
 
 -- ---- one step after another
 
-pub then-follows : {A B C : Type 0} (R : A → B → Type 0) (x : Result A ReadFault) (y : Result B ReadFault) (f : A → Result C ReadFault) (g : B → Result C ReadFault) → Follows R x y → ((a : A) (b : B) → R a b → SameOk (f a) (g b))
+pub then-follows : {A B C : Type 0} (R : A → B → Type 0) (x : Result A ReadFault) (y : Result B ReadFault) (f : A
+    → Result C ReadFault) (g : B → Result C ReadFault) → Follows R x y → ((a : A) (b : B) → R a b → SameOk (f a) (g b))
     → SameOk (and_then x f) (and_then y g)
 then-follows R (Ok a) (Ok b) f g h k = k a b h
 then-follows R (Ok a) (Err e) f g h k = absurd h
 then-follows R (Err e) y f g h k = tt
 
-pub then-same : {A C : Type 0} (x y : Result A ReadFault) (f g : A → Result C ReadFault) → SameOk x y → ((a : A) → SameOk (f a) (g a)) → SameOk (and_then x f) (and_then y g)
+pub then-same : {A C : Type 0} (x y : Result A ReadFault) (f g : A → Result C ReadFault) → SameOk x y → ((a : A) → SameOk (f a) (g a))
+    → SameOk (and_then x f) (and_then y g)
 then-same {A = A} (Ok a) (Ok b) f g h k = subst (λ (c : A). SameOk (f a) (g c)) h (k a)
 then-same (Ok a) (Err e) f g h k = absurd h
 then-same (Err e) y f g h k = tt
 
-pub if-same : {A : Type 0} (b : Bool) (x y more others : Result A ReadFault) → SameOk x y → SameOk more others → SameOk (if b then x else more) (if b then y else others)
+pub if-same : {A : Type 0} (b : Bool) (x y more others : Result A ReadFault) → SameOk x y → SameOk more others
+    → SameOk (if b then x else more) (if b then y else others)
 if-same true x y more others h k = h
 if-same false x y more others h k = k
 
-pub counted-same : {A : Type 0} (what : What) (limit seen : ℕ) (t u : Tree) (x y : Result A ReadFault) → SameOk x y → SameOk (counted what limit seen t x) (counted what limit seen u y)
+pub counted-same : {A : Type 0} (what : What) (limit seen : ℕ) (t u : Tree) (x y : Result A ReadFault) → SameOk x y
+    → SameOk (counted what limit seen t x) (counted what limit seen u y)
 counted-same what limit seen t u x y h = if-same (nat_lt seen limit) x y _ _ h tt
 
-pub each-same : {S : Type 0} (one other : Tree → S → Result S ReadFault) → ((t u : Tree) (s : S) → Alike t u → SameOk (one t s) (other u s)) → (ts us : Trees) (s : S) → AreAlike ts us → SameOk (each one ts s) (each other us s)
+pub each-same : {S : Type 0} (one other : Tree → S → Result S ReadFault) → ((t u : Tree) (s : S) → Alike t u → SameOk (one t s) (other u s))
+    → (ts us : Trees) (s : S) → AreAlike ts us → SameOk (each one ts s) (each other us s)
 each-same one other step NoTrees NoTrees s are = refl
 each-same one other step NoTrees (NextTree u us) s are = absurd are
 each-same one other step (NextTree t ts) NoTrees s are = absurd are
-each-same one other step (NextTree t ts) (NextTree u us) s are = then-same (one t s) (other u s) (each one ts) (each other us) (step t u s are.0) (λ now. each-same one other step ts us now are.1)
+each-same one other step (NextTree t ts) (NextTree u us) s are =
+    then-same (one t s) (other u s) (each one ts) (each other us) (step t u s are.0) (λ now. each-same one other step ts us now are.1)
 
 -- ---- parts of trees
 
@@ -61,8 +67,10 @@ found-alike h g (OnceIn t) NowhereIn are = absurd are
 found-alike h g (OnceIn t) (TwiceIn e) are = absurd are
 found-alike h g (TwiceIn e) m are = tt
 
-pub required-found : (name : List ℕ) (h g : Tree) (es fs : Entries) → FoundAlike (lookup name es) (lookup name fs) → Follows Alike (required name h es) (required name g fs)
+pub required-found : (name : List ℕ) (h g : Tree) (es fs : Entries) → FoundAlike (lookup name es) (lookup name fs)
+    → Follows Alike (required name h es) (required name g fs)
 required-found name h g es fs found = found-alike h g (lookup name es) (lookup name fs) found
 
-pub required-alike : (name : List ℕ) (h g : Tree) (es fs : Entries) → EntriesAlike es fs → Follows Alike (required name h es) (required name g fs)
+pub required-alike : (name : List ℕ) (h g : Tree) (es fs : Entries) → EntriesAlike es fs
+    → Follows Alike (required name h es) (required name g fs)
 required-alike name h g es fs are = required-found name h g es fs (lookup-alike name es fs are)

@@ -8,4 +8,5 @@ use Rattle.topo_writer.specs.Texts.{IsDifference}
 
 pub short_difference : (z : ℤ) → IsDifference z → length (signed_decimal z) ≤ 11
 short_difference (pos n) h = let low : n ≤ 2 ^ 30 = omega (arith, ints, h.high) in length_signed_le 10 (pos n) (omega arith) (omega arith)
-short_difference (negsuc n) h = let low : n ≤ 2 ^ 30 = omega (arith, ints, h.low) in length_signed_le 10 (negsuc n) (omega arith) (omega arith)
+short_difference (negsuc n) h = let low : n ≤ 2 ^ 30 = omega (arith, ints, h.low) in
+    length_signed_le 10 (negsuc n) (omega arith) (omega arith)

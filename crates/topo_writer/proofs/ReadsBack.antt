@@ -1,14 +1,17 @@
 -- A text with the arcs of a map that fits in it reads back as that map.
 use Rattle.std.specs.Prelude.{codes, if◌then◌else◌}
-use Rattle.std.proofs.Common.{◌≡◌, ℕ, ◌+◌, ◌<◌, ◌≤◌, Bool, true, false, bytes_eq, List, [], ◌∷◌, ◌++◌, length, get_or, take, drop, Result, Ok, Err, refl, sym, ap, subst, ◌∙◌, arith, append_assoc, take_at, drop_at, IsUtf8}
+use Rattle.std.proofs.Common.{◌≡◌, ℕ, ◌+◌, ◌<◌, ◌≤◌, Bool, true, false, bytes_eq, List, [], ◌∷◌, ◌++◌, length, get_or, take, drop, Result}
+use Rattle.std.proofs.Common.{Ok, Err, refl, sym, ap, subst, ◌∙◌, arith, append_assoc, take_at, drop_at, IsUtf8}
 use Rattle.std.proofs.lemmas.List.{length-append, get_or_at}
 use Rattle.std.proofs.lemmas.Str.{IsUtf8-append, IsUtf8-take, IsUtf8-drop, IsUtf8-from_ascii, IsCharBoundary-before_ascii}
 use Rattle.std.proofs.lemmas.Slice.Eq.{bytes_eq-Decides}
 use Rattle.std.specs.Str.{IsAscii, IsCharBoundary}
 use Rattle.grid_exact.specs.Geometry.{Place}
 use Rattle.arc_map.specs.Map.{Map}
-use Rattle.json_scan.specs.Grammar.{Value, Null, False, True, Number, Text, EmptyList, FullList, EmptyObject, FullObject, Members, Document, IsDocument, value_depth, members_depth, mark_then, value_then, members_then, value_width, document_text}
-use Rattle.json_scan.specs.Tree.{Extent, extent, extent_of, Tree, Trees, Entries, value_tree, members_entries, document_tree, Lookup, NowhereIn, OnceIn, TwiceIn, lookup}
+use Rattle.json_scan.specs.Grammar.{Value, Null, False, True, Number, Text, EmptyList, FullList, EmptyObject, FullObject, Members, Document}
+use Rattle.json_scan.specs.Grammar.{IsDocument, value_depth, members_depth, mark_then, value_then, members_then, value_width, document_text}
+use Rattle.json_scan.specs.Tree.{Extent, extent, extent_of, Tree, Trees, Entries, value_tree, members_entries, document_tree, Lookup}
+use Rattle.json_scan.specs.Tree.{NowhereIn, OnceIn, TwiceIn, lookup}
 use Rattle.json_scan.proofs.Appends.{value-append}
 use Rattle.topo_reader.specs.declared.fault.ReadFault.{ReadFault}
 use Rattle.topo_reader.specs.Sequence.{and_then, list_of, at_found, required}
@@ -44,11 +47,15 @@ cut-before front (b ∷ bs) begins utf8 =
     let within : length front < length text = omega (arith, longer) in
     let byte : get_or text (length front) 0 ≡ b = get_or_at front b bs 0 (length front) refl in
     let small : get_or text (length front) 0 < 128 = subst (λ (n : ℕ). n < 128) (sym byte) begins in
-    let boundary : IsCharBoundary text (length front) = IsCharBoundary-before_ascii text (length front) within small in
-    (subst IsUtf8 (take_at front (b ∷ bs) (length front) refl) (IsUtf8-take text (length front) utf8 boundary), subst IsUtf8 (drop_at front (b ∷ bs) (length front) refl) (IsUtf8-drop text (length front) utf8 boundary))
+    let boundary : IsCharBoundary text (length front) = IsCharBoundary-before_ascii text (length front) within small in (
+      subst IsUtf8 (take_at front (b ∷ bs) (length front) refl) (IsUtf8-take text (length front) utf8 boundary),
+      subst IsUtf8
+          (drop_at front (b ∷ bs) (length front) refl) (IsUtf8-drop text (length front) utf8 boundary),
+    )
 
 -- other ASCII bytes in the place of a part
-utf8-replaced : (front part back ascii : List ℕ) → BeginsAscii (part ++ back) → BeginsAscii back → IsAscii ascii → IsUtf8 (front ++ (part ++ back)) → IsUtf8 (front ++ (ascii ++ back))
+utf8-replaced : (front part back ascii : List ℕ) → BeginsAscii (part ++ back) → BeginsAscii back → IsAscii ascii
+    → IsUtf8 (front ++ (part ++ back)) → IsUtf8 (front ++ (ascii ++ back))
 utf8-replaced front part back ascii begins_part begins_back is utf8 =
     let outer = cut-before front (part ++ back) begins_part utf8 in
     let inner = cut-before part back begins_back outer.1 in
@@ -56,7 +63,8 @@ utf8-replaced front part back ascii begins_part begins_back is utf8 =
 
 -- ---- the text
 
-spliced-is : (text front part back other : List ℕ) (start end : ℕ) → text ≡ front ++ (part ++ back) → start ≡ length front → end ≡ length front + length part → spliced text start end other ≡ front ++ (other ++ back)
+spliced-is : (text front part back other : List ℕ) (start end : ℕ) → text ≡ front ++ (part ++ back) → start ≡ length front
+    → end ≡ length front + length part → spliced text start end other ≡ front ++ (other ++ back)
 spliced-is text front part back other start end is from to =
     let before : take start text ≡ front = ap (take start) is ∙ take_at front (part ++ back) start (sym from) in
     let long : length (front ++ part) ≡ end = length-append front part ∙ sym to in
@@ -75,10 +83,13 @@ mark-length : (mark : Bool) (a : List ℕ) → length (mark_then mark a) ≡ (if
 mark-length true a = omega arith
 mark-length false a = omega arith
 
-object-front : (mark : Bool) (before front rest : List ℕ) → mark_then mark (before ++ (123 ∷ (front ++ rest))) ≡ front_of mark before front ++ rest
-object-front mark before front rest = ap (mark_then mark) (sym (append_assoc before (123 ∷ front) rest)) ∙ mark-append mark (before ++ (123 ∷ front)) rest
+object-front : (mark : Bool) (before front rest : List ℕ) → mark_then mark (before ++ (123 ∷ (front ++ rest))) ≡ front_of mark before front
+    ++ rest
+object-front mark before front rest = ap (mark_then mark) (sym (append_assoc before (123 ∷ front) rest))
+    ∙ mark-append mark (before ++ (123 ∷ front)) rest
 
-front-length : (mark : Bool) (before front : List ℕ) → length (front_of mark before front) ≡ (if mark then 3 else 0) + length before + 1 + length front
+front-length : (mark : Bool) (before front : List ℕ) → length (front_of mark before front)
+    ≡ (if mark then 3 else 0) + length before + 1 + length front
 front-length mark before front = omega (arith, mark-length mark (before ++ (123 ∷ front)), length-append before (123 ∷ front))
 
 -- a value stands from its place on, as wide as it is
@@ -98,7 +109,8 @@ extent-is (EmptyObject gap) place =
 extent-is (FullObject members) place = refl
 
 -- a value that is read as a List begins with its bracket
-list-begins : (v : Value) (place : ℕ) (trees : Trees) (rest : List ℕ) → list_of (value_tree v place) ≡ Ok trees → BeginsAscii (value_then v rest)
+list-begins : (v : Value) (place : ℕ) (trees : Trees) (rest : List ℕ) → list_of (value_tree v place) ≡ Ok trees
+    → BeginsAscii (value_then v rest)
 list-begins Null place trees rest h = not-ok _ trees h
 list-begins False place trees rest h = not-ok _ trees h
 list-begins True place trees rest h = not-ok _ trees h
@@ -135,20 +147,25 @@ map_seen coded arcs seen = Ok (record { arcs = arcs; points = seen.points; polyg
 abbrev read_at : Tree → Map → Result TopologyRead ReadFault
 read_at value map = Ok (record { map = map; arcs_at = extent_of value })
 
-map-split : (coded : Bool) (arcs : List (List Place)) (holder : Tree) (members : Entries) → map_of coded arcs holder members ≡ and_then (objects_seen arcs holder members) (map_seen coded arcs)
+map-split : (coded : Bool) (arcs : List (List Place)) (holder : Tree) (members : Entries)
+    → map_of coded arcs holder members ≡ and_then (objects_seen arcs holder members) (map_seen coded arcs)
 map-split coded arcs holder members = at_case (required (codes "objects") holder members)
   where
-    at_case : (r : Result Tree ReadFault) → and_then r (λ objects. and_then (objects_of arcs objects nothing_seen) (map_seen coded arcs)) ≡ and_then (and_then r (λ objects. objects_of arcs objects nothing_seen)) (map_seen coded arcs)
+    at_case : (r : Result Tree ReadFault) → and_then r (λ objects. and_then (objects_of arcs objects nothing_seen) (map_seen coded arcs))
+        ≡ and_then (and_then r (λ objects. objects_of arcs objects nothing_seen)) (map_seen coded arcs)
     at_case (Ok t) = refl
     at_case (Err f) = refl
 
 read-from : (holder : Tree) (members : Entries) (t : TopologyRead) → topology_from holder members ≡ Ok t → IsReadFrom holder members t
 read-from holder members t h =
-    let head = then-ok (header_of holder members) (λ coded. and_then (required (codes "arcs") holder members) (λ value. and_then (arcs_value coded value) (λ arcs. and_then (map_of coded arcs holder members) (read_at value)))) t h in
-    let one = then-ok (required (codes "arcs") holder members) (λ value. and_then (arcs_value head.0 value) (λ arcs. and_then (map_of head.0 arcs holder members) (read_at value))) t head.2 in
+    let head = then-ok (header_of holder members) (λ coded. and_then (required (codes "arcs") holder members) (λ value.
+    and_then (arcs_value coded value) (λ arcs. and_then (map_of coded arcs holder members) (read_at value)))) t h in
+    let one = then-ok (required (codes "arcs") holder members) (λ value.
+    and_then (arcs_value head.0 value) (λ arcs. and_then (map_of head.0 arcs holder members) (read_at value))) t head.2 in
     let arcs = then-ok (arcs_value head.0 one.0) (λ arcs. and_then (map_of head.0 arcs holder members) (read_at one.0)) t one.2 in
     let map = then-ok (map_of head.0 arcs.0 holder members) (read_at one.0) t arcs.2 in
-    let seen = then-ok (objects_seen arcs.0 holder members) (map_seen head.0 arcs.0) map.0 (sym (map-split head.0 arcs.0 holder members) ∙ map.1) in
+    let seen = then-ok (objects_seen arcs.0 holder members) (map_seen head.0 arcs.0) map.0 (sym (map-split head.0 arcs.0 holder members)
+    ∙ map.1) in
     let is = same-ok (record { map = map.0; arcs_at = extent_of one.0 }) t map.2 in
     record {
       coded = head.0;
@@ -164,14 +181,19 @@ read-from holder members t h =
     }
 
 -- a topology with other arcs
-reads-so : (holder : Tree) (members : Entries) (coded : Bool) (value : Tree) (arcs : List (List Place)) (seen : Seen) → header_of holder members ≡ Ok coded → lookup (codes "arcs") members ≡ OnceIn value → arcs_value coded value ≡ Ok arcs
+reads-so : (holder : Tree) (members : Entries) (coded : Bool) (value : Tree) (arcs : List (List Place)) (seen : Seen)
+    → header_of holder members ≡ Ok coded → lookup (codes "arcs") members ≡ OnceIn value → arcs_value coded value ≡ Ok arcs
     → objects_seen arcs holder members ≡ Ok seen
     → topology_from holder members ≡ read_at value (record { arcs = arcs; points = seen.points; polygons = seen.polygons; coded = coded })
 reads-so holder members coded value arcs seen header found read objects =
-    ap (λ (r : Result Bool ReadFault). and_then r (λ coded. and_then (required (codes "arcs") holder members) (λ value. and_then (arcs_value coded value) (λ arcs. and_then (map_of coded arcs holder members) (read_at value))))) header
-    ∙ ap (λ (l : Lookup). and_then (at_found holder l) (λ value. and_then (arcs_value coded value) (λ arcs. and_then (map_of coded arcs holder members) (read_at value)))) found
-    ∙ ap (λ (r : Result (List (List Place)) ReadFault). and_then r (λ arcs. and_then (map_of coded arcs holder members) (read_at value))) read
-    ∙ ap (λ (r : Result Map ReadFault). and_then r (read_at value)) (map-split coded arcs holder members ∙ ap (λ (r : Result Seen ReadFault). and_then r (map_seen coded arcs)) objects)
+    ap (λ (r : Result Bool ReadFault). and_then r (λ coded. and_then (required (codes "arcs") holder members) (λ value.
+    and_then (arcs_value coded value) (λ arcs. and_then (map_of coded arcs holder members) (read_at value))))) header
+    ∙ ap (λ (l : Lookup). and_then (at_found holder l) (λ value.
+    and_then (arcs_value coded value) (λ arcs. and_then (map_of coded arcs holder members) (read_at value)))) found
+    ∙ ap (λ (r : Result (List (List Place)) ReadFault). and_then r (λ arcs. and_then (map_of coded arcs holder members) (read_at value)))
+    read
+    ∙ ap (λ (r : Result Map ReadFault). and_then r (read_at value)) (map-split coded arcs holder members
+    ∙ ap (λ (r : Result Seen ReadFault). and_then r (map_seen coded arcs)) objects)
 
 -- none of these names is that of the arcs
 not-arcs : (name word : List ℕ) → bytes_eq name (codes "arcs") ≡ false → IsArcsName word → bytes_eq word name ≡ true → ⊥
@@ -180,7 +202,8 @@ not-arcs name word other arcs same =
     let clash : true ≡ false = sym arcs ∙ ap (λ (w : List ℕ). bytes_eq w (codes "arcs")) is ∙ other in
     absurd cc
 
-map-same : (new : Map) (points : List Place) (polygons : List (List ℕ)) (coded : Bool) → points ≡ new.points → polygons ≡ new.polygons → coded ≡ new.coded → record { arcs = new.arcs; points = points; polygons = polygons; coded = coded } ≡ new
+map-same : (new : Map) (points : List Place) (polygons : List (List ℕ)) (coded : Bool) → points ≡ new.points → polygons ≡ new.polygons
+    → coded ≡ new.coded → record { arcs = new.arcs; points = points; polygons = polygons; coded = coded } ≡ new
 map-same new points polygons coded p q r = rw (p, q, r) refl
 
 -- ---- the whole
@@ -192,12 +215,17 @@ object_document mark before ms after = record { mark = mark; before = before; va
 abbrev inside : Bool → List ℕ → ℕ
 inside mark before = (if mark then 3 else 0) + length before + 1
 
-object-text : (mark : Bool) (before : List ℕ) (ms : Members) (after front middle back : List ℕ) → members_then ms (125 ∷ after) ≡ front ++ (middle ++ back) → document_text (object_document mark before ms after) ≡ front_of mark before front ++ (middle ++ back)
-object-text mark before ms after front middle back e = ap (λ (l : List ℕ). mark_then mark (before ++ (123 ∷ l))) e ∙ object-front mark before front (middle ++ back)
+object-text : (mark : Bool) (before : List ℕ) (ms : Members) (after front middle back : List ℕ)
+    → members_then ms (125 ∷ after) ≡ front ++ (middle ++ back)
+    → document_text (object_document mark before ms after) ≡ front_of mark before front ++ (middle ++ back)
+object-text mark before ms after front middle back e = ap (λ (l : List ℕ). mark_then mark (before ++ (123 ∷ l))) e
+    ∙ object-front mark before front (middle ++ back)
 
 -- the topology of an object with other arcs that fit
-other-topology : (holder other : Tree) (members entries : Entries) (t : TopologyRead) (new : Map) (value : Tree) → (from : IsReadFrom holder members t) → FitsIn t.map new → IsFitting t.map new
-    → header_of other entries ≡ Ok from.coded → lookup (codes "arcs") entries ≡ OnceIn value → arcs_value new.coded value ≡ Ok new.arcs → objects_seen new.arcs other entries ≡ Ok from.seen
+other-topology : (holder other : Tree) (members entries : Entries) (t : TopologyRead) (new : Map) (value : Tree)
+    → (from : IsReadFrom holder members t) → FitsIn t.map new → IsFitting t.map new
+    → header_of other entries ≡ Ok from.coded → lookup (codes "arcs") entries ≡ OnceIn value → arcs_value new.coded value ≡ Ok new.arcs
+    → objects_seen new.arcs other entries ≡ Ok from.seen
     → topology_from other entries ≡ read_at value new
 other-topology holder other members entries t new value from fits fit header found read objects =
     let points : from.seen.points ≡ new.points = ap (λ (m : Map). m.points) from.map_is ∙ sym fits.points in
@@ -206,7 +234,8 @@ other-topology holder other members entries t new value from fits fit header fou
     reads-so other entries from.coded value new.arcs from.seen header found (ap (λ (c : Bool). arcs_value c value) coded ∙ read) objects
     ∙ ap (read_at value) (map-same new from.seen.points from.seen.polygons from.coded points polygons coded)
 
-replaced-topology : (holder other : Tree) (ms : Members) (place : ℕ) (t : TopologyRead) (new : Map) → (from : IsReadFrom holder (members_entries ms place) t) → FitsIn t.map new → IsFitting t.map new
+replaced-topology : (holder other : Tree) (ms : Members) (place : ℕ) (t : TopologyRead) (new : Map)
+    → (from : IsReadFrom holder (members_entries ms place) t) → FitsIn t.map new → IsFitting t.map new
     → (s : Spelled (IsListTree (AreTrees (IsWrittenArc new.coded) new.arcs)) 3 (arcs_text_of new)) (r : Replaced s.form ms place from.value)
     → topology_from other (members_entries r.members place) ≡ read_at (value_tree s.form (place + length r.front)) new
 replaced-topology holder other ms place t new from fits fit s r =
@@ -219,25 +248,31 @@ replaced-topology holder other ms place t new from fits fit s r =
     let transform = lookup-but IsArcsName (codes "transform") members entries (λ word. not-arcs (codes "transform") word refl) r.others in
     let objects = lookup-but IsArcsName (codes "objects") members entries (λ word. not-arcs (codes "objects") word refl) r.others in
     other-topology holder other members entries t new value from fits fit
-    (same-ends (header_of holder members) (header_of other entries) from.coded (header-same holder other members entries type transform) from.header)
+    (same-ends (header_of holder members) (header_of other entries) from.coded (header-same holder other members entries type transform)
+    from.header)
     r.found
     (written-read new.coded new.arcs value fit.written.each fit.written.few fit.written.few_positions (s.tree (place + length r.front)))
-    (same-ends (objects_seen from.arcs holder members) (objects_seen new.arcs other entries) from.seen (seen-same from.arcs new.arcs holder other members entries steps objects) from.objects)
+    (same-ends (objects_seen from.arcs holder members) (objects_seen new.arcs other entries) from.seen
+    (seen-same from.arcs new.arcs holder other members entries steps objects) from.objects)
 
 -- the value that was read as arcs begins with a bracket
-arcs-begin : (coded : Bool) (value : Tree) (arcs : List (List Place)) (v : Value) (place : ℕ) (rest : List ℕ) → arcs_value coded value ≡ Ok arcs → value ≡ value_tree v place → BeginsAscii (value_then v rest)
+arcs-begin : (coded : Bool) (value : Tree) (arcs : List (List Place)) (v : Value) (place : ℕ) (rest : List ℕ)
+    → arcs_value coded value ≡ Ok arcs → value ≡ value_tree v place → BeginsAscii (value_then v rest)
 arcs-begin coded value arcs v place rest read is =
     let listed = then-ok (list_of value) (arcs_of coded 0 []) arcs read in
     list-begins v place listed.0 rest (sym (ap list_of is) ∙ listed.1)
 
-object-back : (text : List ℕ) (mark : Bool) (before : List ℕ) (ms : Members) (after : List ℕ) (t : TopologyRead) (new : Map) → IsUtf8 text → IsDocument (object_document mark before ms after) → members_depth ms ≤ 63
-    → text ≡ document_text (object_document mark before ms after) → topology_of (value_tree (FullObject ms) ((if mark then 3 else 0) + length before)) ≡ Ok t → FitsIn t.map new
+object-back : (text : List ℕ) (mark : Bool) (before : List ℕ) (ms : Members) (after : List ℕ) (t : TopologyRead) (new : Map) → IsUtf8 text
+    → IsDocument (object_document mark before ms after) → members_depth ms ≤ 63
+    → text ≡ document_text (object_document mark before ms after)
+    → topology_of (value_tree (FullObject ms) ((if mark then 3 else 0) + length before)) ≡ Ok t → FitsIn t.map new
     → ReadsAs (spliced text t.arcs_at.start t.arcs_at.end (arcs_text_of new)) new
 object-back text mark before ms after t new utf8 is deep spelled h fits =
     let place = inside mark before in
     let holder = value_tree (FullObject ms) ((if mark then 3 else 0) + length before) in
     let from = read-from holder (members_entries ms place) t h in
-    let can : CanBeWritten t.map.arcs = subst CanBeWritten (ap (λ (m : Map). m.arcs) from.map_is) (read-can_be_written from.coded from.value from.arcs from.read) in
+    let can : CanBeWritten t.map.arcs = subst CanBeWritten (ap (λ (m : Map). m.arcs) from.map_is)
+    (read-can_be_written from.coded from.value from.arcs from.read) in
     let fit = fitting t.map new can fits in
     let s = arcs-spelled new.coded new.arcs fit.written.each in
     let r = replaced s.form ms place from.value from.found in
@@ -245,15 +280,20 @@ object-back text mark before ms after t new utf8 is deep spelled h fits =
     let front = front_of mark before r.front in
     let back = r.behind (125 ∷ after) in
     let part = value_then r.value [] in
-    let whole : text ≡ front ++ (part ++ back) = spelled ∙ object-text mark before ms after r.front part back (r.spelled (125 ∷ after) ∙ ap (λ (l : List ℕ). r.front ++ l) (value-append r.value [] back)) in
+    let whole : text ≡ front ++ (part ++ back) = spelled ∙ object-text mark before ms after r.front part back (r.spelled (125 ∷ after)
+    ∙ ap (λ (l : List ℕ). r.front ++ l) (value-append r.value [] back)) in
     let other = object_document mark before r.members after in
     let respelled : document_text other ≡ front ++ (arcs_text_of new ++ back) =
-    object-text mark before r.members after r.front (arcs_text_of new) back (r.respelled (125 ∷ after) ∙ ap (λ (l : List ℕ). r.front ++ l) (s.spelled back)) in
+    object-text mark before r.members after r.front (arcs_text_of new) back (r.respelled (125 ∷ after)
+    ∙ ap (λ (l : List ℕ). r.front ++ l) (s.spelled back)) in
     let extent_at : t.arcs_at ≡ extent at (value_width r.value) = sym from.at_is ∙ ap extent_of r.tree ∙ extent-is r.value at in
     let start : t.arcs_at.start ≡ length front = ap (λ (e : Extent). e.start) extent_at ∙ sym (front-length mark before r.front) in
-    let end : t.arcs_at.end ≡ length front + length part = ap (λ (e : Extent). e.end) extent_at ∙ ap (λ (n : ℕ). n + length part) (sym (front-length mark before r.front)) in
-    let cut : spliced text t.arcs_at.start t.arcs_at.end (arcs_text_of new) ≡ front ++ (arcs_text_of new ++ back) = spliced-is text front part back (arcs_text_of new) t.arcs_at.start t.arcs_at.end whole start end in
-    let begins : BeginsAscii (part ++ back) = subst BeginsAscii (value-append r.value [] back) (arcs-begin from.coded from.value from.arcs r.value at back from.read r.tree) in
+    let end : t.arcs_at.end ≡ length front + length part = ap (λ (e : Extent). e.end) extent_at
+    ∙ ap (λ (n : ℕ). n + length part) (sym (front-length mark before r.front)) in
+    let cut : spliced text t.arcs_at.start t.arcs_at.end (arcs_text_of new) ≡ front ++ (arcs_text_of new ++ back) =
+    spliced-is text front part back (arcs_text_of new) t.arcs_at.start t.arcs_at.end whole start end in
+    let begins : BeginsAscii (part ++ back) = subst BeginsAscii (value-append r.value [] back)
+    (arcs-begin from.coded from.value from.arcs r.value at back from.read r.tree) in
     let begins_back : BeginsAscii back = r.ascii is.value (125 ∷ after) (omega arith) in
     let shallow : members_depth r.members ≤ 63 = r.deep 63 deep (let few = s.deep in omega (arith, few)) in
     subst (λ (l : List ℕ). ReadsAs l new) (sym cut) (record {
@@ -269,8 +309,10 @@ object-back text mark before ms after t new utf8 is deep spelled h fits =
       topology = replaced-topology holder (document_tree other) ms place t new from fits fit s r;
     })
 
-value-back : (text : List ℕ) (mark : Bool) (before : List ℕ) (v : Value) (after : List ℕ) (t : TopologyRead) (new : Map) → IsUtf8 text → IsDocument (record { mark = mark; before = before; value = v; after = after }) → value_depth v ≤ 64
-    → text ≡ document_text (record { mark = mark; before = before; value = v; after = after }) → topology_of (value_tree v ((if mark then 3 else 0) + length before)) ≡ Ok t → FitsIn t.map new
+value-back : (text : List ℕ) (mark : Bool) (before : List ℕ) (v : Value) (after : List ℕ) (t : TopologyRead) (new : Map) → IsUtf8 text
+    → IsDocument (record { mark = mark; before = before; value = v; after = after }) → value_depth v ≤ 64
+    → text ≡ document_text (record { mark = mark; before = before; value = v; after = after })
+    → topology_of (value_tree v ((if mark then 3 else 0) + length before)) ≡ Ok t → FitsIn t.map new
     → ReadsAs (spliced text t.arcs_at.start t.arcs_at.end (arcs_text_of new)) new
 value-back text mark before Null after t new utf8 is deep spelled h fits = not-ok _ t h
 value-back text mark before False after t new utf8 is deep spelled h fits = not-ok _ t h
@@ -285,4 +327,5 @@ value-back text mark before (FullObject ms) after t new utf8 is deep spelled h f
     object-back text mark before ms after t new utf8 is few spelled h fits
 
 pub reads-back : SplicedReadsBack
-reads-back text d t new utf8 json h fits = value-back text d.mark d.before d.value d.after t new utf8 json.document json.depth json.spelled h fits
+reads-back text d t new utf8 json h fits = value-back text d.mark d.before d.value d.after t new utf8 json.document json.depth json.spelled
+    h fits

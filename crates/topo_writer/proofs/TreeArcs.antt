@@ -1,5 +1,6 @@
 -- The walk over the tree of a written text of arcs reads these arcs.
-use Rattle.std.proofs.Common.{◌≡◌, ◌≢◌, ℕ, suc, ◌+◌, ◌-◌, ◌<◌, ◌≤◌, ◌^◌, Bool, true, false, ◌&&◌, Option, Some, List, [], ◌∷◌, ◌++◌, length, sum_by, Result, Ok, ℤ, ◌+ℤ◌, refl, sym, ap, ◌∙◌, arith, append_assoc, append-nil}
+use Rattle.std.proofs.Common.{◌≡◌, ◌≢◌, ℕ, suc, ◌+◌, ◌-◌, ◌<◌, ◌≤◌, ◌^◌, Bool, true, false, ◌&&◌, Option, Some, List, [], ◌∷◌, ◌++◌, length}
+use Rattle.std.proofs.Common.{sum_by, Result, Ok, ℤ, ◌+ℤ◌, refl, sym, ap, ◌∙◌, arith, append_assoc, append-nil}
 use Rattle.std.specs.Prelude.{unwrap_or, slice_get}
 use Rattle.std.specs.List.{AllByRecursion}
 use Rattle.std.specs.Ordering.{int_eq}
@@ -45,9 +46,11 @@ pub record LiesFrom (base w p : Place) : Type 0 where
   pub across : base.x +ℤ w.x ≡ p.x
   pub up : base.y +ℤ w.y ≡ p.y
 
-two-read : (base p w : Place) (first second : Tree) → IsGridPlace p → LiesFrom base w p → IsNumberTree w.x first → IsNumberTree w.y second → two_numbers base first second ≡ Ok p
+two-read : (base p w : Place) (first second : Tree) → IsGridPlace p → LiesFrom base w p → IsNumberTree w.x first → IsNumberTree w.y second
+    → two_numbers base first second ≡ Ok p
 two-read base p w first second grid lies a b =
-    ap (λ (r : Result ℤ ReadFault). and_then r (λ (x : ℤ). and_then (number_of base.y second) (placed x))) (number-read base.x p.x w.x first grid.0 lies.across a)
+    ap (λ (r : Result ℤ ReadFault). and_then r (λ (x : ℤ). and_then (number_of base.y second) (placed x)))
+    (number-read base.x p.x w.x first grid.0 lies.across a)
     ∙ ap (λ (r : Result ℤ ReadFault). and_then r (placed p.x)) (number-read base.y p.y w.y second grid.1 lies.up b)
 
 pub pair-read : (base p w : Place) (t : Tree) → IsGridPlace p → LiesFrom base w p → IsPairTree w t → position_of base t ≡ Ok p
@@ -67,8 +70,10 @@ first-read : (coded : Bool) (p : Place) (t : Tree) → IsGridPlace p → IsPairT
 first-read true p t grid is = pair-read origin p p t grid (from-origin p) is
 first-read false p t grid is = pair-read origin p p t grid (from-origin p) is
 
-next-read : (coded : Bool) (arc : List Place) (p q : Place) (t : Tree) → last_of arc ≡ Some p → IsGridPlace q → IsPairTree (coded_position coded p q) t → position_of (base_of coded arc) t ≡ Ok q
-next-read true arc p q t last grid is = ap (λ (o : Option Place). position_of (unwrap_or o origin) t) last ∙ pair-read p q (difference p q) t grid (from-before p q) is
+next-read : (coded : Bool) (arc : List Place) (p q : Place) (t : Tree) → last_of arc ≡ Some p → IsGridPlace q
+    → IsPairTree (coded_position coded p q) t → position_of (base_of coded arc) t ≡ Ok q
+next-read true arc p q t last grid is = ap (λ (o : Option Place). position_of (unwrap_or o origin) t) last
+    ∙ pair-read p q (difference p q) t grid (from-before p q) is
 next-read false arc p q t last grid is = pair-read origin q q t grid (from-origin q) is
 
 -- ---- an arc
@@ -120,7 +125,8 @@ same-read : (m n : ℕ) (a b : List Place) → m ≡ n → a ≡ b → read_so_f
 same-read m n a b p q = rw (p, q) refl
 
 -- one position more, that is read as q
-step-read : (coded : Bool) (seen : ℕ) (arc now : List Place) (q : Place) (t : Tree) (others : Trees) → seen < 2 ^ 20 → position_of (base_of coded arc) t ≡ Ok q → with_position arc q ≡ now
+step-read : (coded : Bool) (seen : ℕ) (arc now : List Place) (q : Place) (t : Tree) (others : Trees) → seen < 2 ^ 20
+    → position_of (base_of coded arc) t ≡ Ok q → with_position arc q ≡ now
     → positions_of coded seen arc (NextTree t others) ≡ positions_of coded (seen + 1) now others
 step-read coded seen arc now q t others below is next =
     counted-more what.Positions (2 ^ 20) seen t _ below
@@ -133,7 +139,8 @@ moved-on arc p q last other = cond-false (is_at (last_of arc) q) _ _ (ap (λ (o 
 stayed : (p : Place) → with_position (p ∷ []) p ≡ p ∷ []
 stayed p = cond-true (is_at (last_of (p ∷ [])) p) _ _ (same-itself p)
 
-rest-read : (coded : Bool) (seen : ℕ) (arc : List Place) (p : Place) (qs : List Place) (trees : Trees) → last_of arc ≡ Some p → EachEdge (λ a b. a ≢ b) p qs → AllByRecursion IsGridPlace qs → AreTrees IsPairTree (written coded p qs) trees
+rest-read : (coded : Bool) (seen : ℕ) (arc : List Place) (p : Place) (qs : List Place) (trees : Trees) → last_of arc ≡ Some p
+    → EachEdge (λ a b. a ≢ b) p qs → AllByRecursion IsGridPlace qs → AreTrees IsPairTree (written coded p qs) trees
     → seen + length qs ≤ 2 ^ 20 → positions_of coded seen arc trees ≡ read_so_far (seen + length qs) (arc ++ qs)
 rest-read coded seen arc p [] NoTrees last moves grid are few =
     let e : seen ≡ seen + 0 = omega arith in
@@ -146,7 +153,8 @@ rest-read coded seen arc p (q ∷ qs) (NextTree t others) last moves grid are fe
     let count : (seen + 1) + length qs ≡ seen + suc (length qs) = omega arith in
     step-read coded seen arc (arc ++ q ∷ []) q t others below (next-read coded arc p q t last grid.0 are.0) (moved-on arc p q last moves.0)
     ∙ rest-read coded (seen + 1) (arc ++ q ∷ []) q qs others (last-push arc q) moves.1 grid.1 are.1 more
-    ∙ same-read ((seen + 1) + length qs) (seen + suc (length qs)) ((arc ++ q ∷ []) ++ qs) (arc ++ (q ∷ qs)) count (append_assoc arc (q ∷ []) qs)
+    ∙ same-read ((seen + 1) + length qs) (seen + suc (length qs)) ((arc ++ q ∷ []) ++ qs) (arc ++ (q ∷ qs)) count
+    (append_assoc arc (q ∷ []) qs)
 
 -- how many positions are written for an arc
 abbrev pub written_length : List Place → ℕ
@@ -163,7 +171,8 @@ pub record IsGridArc (arc : List Place) : Type 0 where
   pub grid : AllByRecursion IsGridPlace arc
 
 -- behind its first position
-behind-first : (coded : Bool) (seen : ℕ) (p : Place) (ps : List Place) (trees : Trees) → IsGridArc (p ∷ ps) → AreTrees IsPairTree (written coded p (following p ps)) trees → seen + length (following p ps) ≤ 2 ^ 20
+behind-first : (coded : Bool) (seen : ℕ) (p : Place) (ps : List Place) (trees : Trees) → IsGridArc (p ∷ ps)
+    → AreTrees IsPairTree (written coded p (following p ps)) trees → seen + length (following p ps) ≤ 2 ^ 20
     → positions_of coded seen (p ∷ []) trees ≡ read_so_far (seen + length (following p ps)) (p ∷ ps)
 behind-first coded seen p [] NoTrees is are few = absurd are
 behind-first coded seen p [] (NextTree t NoTrees) is are few =
@@ -172,8 +181,10 @@ behind-first coded seen p [] (NextTree t NoTrees) is are few =
 behind-first coded seen p [] (NextTree t (NextTree u others)) is are few = absurd are.1
 behind-first coded seen p (q ∷ qs) trees is are few = rest-read coded seen (p ∷ []) p (q ∷ qs) trees refl is.is_arc is.grid.1 are few
 
-arc-of_trees : (coded : Bool) (seen : ℕ) (p : Place) (ps : List Place) (first second : Tree) (others : Trees) → IsGridArc (p ∷ ps) → AreTrees IsPairTree (p ∷ written coded p (following p ps)) (NextTree first (NextTree second others))
-    → seen + written_length (p ∷ ps) ≤ 2 ^ 20 → positions_of coded seen [] (NextTree first (NextTree second others)) ≡ read_so_far (seen + written_length (p ∷ ps)) (p ∷ ps)
+arc-of_trees : (coded : Bool) (seen : ℕ) (p : Place) (ps : List Place) (first second : Tree) (others : Trees) → IsGridArc (p ∷ ps)
+    → AreTrees IsPairTree (p ∷ written coded p (following p ps)) (NextTree first (NextTree second others))
+    → seen + written_length (p ∷ ps) ≤ 2 ^ 20 → positions_of coded seen [] (NextTree first (NextTree second others))
+    ≡ read_so_far (seen + written_length (p ∷ ps)) (p ∷ ps)
 arc-of_trees coded seen p ps first second others is are few =
     let below : seen < 2 ^ 20 = omega arith in
     let more : (seen + 1) + length (following p ps) ≤ 2 ^ 20 = omega arith in
@@ -186,16 +197,19 @@ none-follow : (coded : Bool) (p : Place) (ps : List Place) → AreTrees IsPairTr
 none-follow coded p [] are = are
 none-follow coded p (q ∷ qs) are = are
 
-pub arc-read : (coded : Bool) (seen : ℕ) (arc : List Place) (t : Tree) → IsGridArc arc → IsWrittenArc coded arc t → seen + written_length arc ≤ 2 ^ 20 → arc_of coded seen t ≡ read_so_far (seen + written_length arc) arc
+pub arc-read : (coded : Bool) (seen : ℕ) (arc : List Place) (t : Tree) → IsGridArc arc → IsWrittenArc coded arc t
+    → seen + written_length arc ≤ 2 ^ 20 → arc_of coded seen t ≡ read_so_far (seen + written_length arc) arc
 arc-read coded seen [] t is are few = absurd are
 arc-read coded seen (p ∷ ps) (ListAt e NoTrees) is are few = absurd are
 arc-read coded seen (p ∷ ps) (ListAt e (NextTree first NoTrees)) is are few = absurd (none-follow coded p ps are.1)
-arc-read coded seen (p ∷ ps) (ListAt e (NextTree first (NextTree second others))) is are few = arc-of_trees coded seen p ps first second others is are few
+arc-read coded seen (p ∷ ps) (ListAt e (NextTree first (NextTree second others))) is are few =
+    arc-of_trees coded seen p ps first second others is are few
 arc-read coded seen (p ∷ ps) t is are few = absurd are
 
 -- ---- all arcs
 
-arcs-read : (coded : Bool) (seen : ℕ) (before arcs : List (List Place)) (trees : Trees) → AllByRecursion IsGridArc arcs → AreTrees (IsWrittenArc coded) arcs trees → length before + length arcs ≤ 2 ^ 20 → seen + sum_by written_length arcs ≤ 2 ^ 20
+arcs-read : (coded : Bool) (seen : ℕ) (before arcs : List (List Place)) (trees : Trees) → AllByRecursion IsGridArc arcs
+    → AreTrees (IsWrittenArc coded) arcs trees → length before + length arcs ≤ 2 ^ 20 → seen + sum_by written_length arcs ≤ 2 ^ 20
     → arcs_of coded seen before trees ≡ Ok (before ++ arcs)
 arcs-read coded seen before [] NoTrees each are few room = ap Ok (sym (append-nil before))
 arcs-read coded seen before [] (NextTree t others) each are few room = absurd are
@@ -208,11 +222,13 @@ arcs-read coded seen before (arc ∷ arcs) (NextTree t others) each are few room
     let fewer : length (before ++ arc ∷ []) + length arcs ≤ 2 ^ 20 = omega (arith, longer) in
     let rest : (seen + written_length arc) + sum_by written_length arcs ≤ 2 ^ 20 = omega (arith, sum) in
     counted-more what.Arcs (2 ^ 20) (length before) t _ below
-    ∙ ap (λ (r : Result ArcRead ReadFault). and_then r (λ (read : ArcRead). arcs_of coded read.positions (before ++ read.arc ∷ []) others)) (arc-read coded seen arc t each.0 are.0 here)
+    ∙ ap (λ (r : Result ArcRead ReadFault). and_then r (λ (read : ArcRead). arcs_of coded read.positions (before ++ read.arc ∷ []) others))
+    (arc-read coded seen arc t each.0 are.0 here)
     ∙ arcs-read coded (seen + written_length arc) (before ++ arc ∷ []) arcs others each.1 are.1 fewer rest
     ∙ ap Ok (append_assoc before (arc ∷ []) arcs)
 
-pub written-read : (coded : Bool) (arcs : List (List Place)) (t : Tree) → AllByRecursion IsGridArc arcs → length arcs ≤ 2 ^ 20 → sum_by written_length arcs ≤ 2 ^ 20 → IsListTree (AreTrees (IsWrittenArc coded) arcs) t → arcs_value coded t ≡ Ok arcs
+pub written-read : (coded : Bool) (arcs : List (List Place)) (t : Tree) → AllByRecursion IsGridArc arcs → length arcs ≤ 2 ^ 20
+    → sum_by written_length arcs ≤ 2 ^ 20 → IsListTree (AreTrees (IsWrittenArc coded) arcs) t → arcs_value coded t ≡ Ok arcs
 written-read coded arcs (ListAt e trees) each few room are =
     let fewer : 0 + length arcs ≤ 2 ^ 20 = omega arith in
     let rest : 0 + sum_by written_length arcs ≤ 2 ^ 20 = omega arith in

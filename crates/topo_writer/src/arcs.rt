@@ -1,17 +1,19 @@
 //! The arcs of a map as text.
-ghost use Rattle.std.specs.Prelude.{◌≡◌, ◌<◌, ◌≤◌, ◌+◌, ◌*◌, ◌^◌, ◌++◌, codes, map, length, vec_len, IfOk, OnOk, sum_by, drop};
+ghost use Rattle.std.specs.Prelude.{◌≡◌, ◌<◌, ◌≤◌, ◌+◌, ◌*◌, ◌^◌, ◌++◌, codes, map, length};
+ghost use Rattle.std.specs.Prelude.{vec_len, IfOk, OnOk, sum_by, drop};
 ghost use Rattle.arc_map.specs.Map.{IsArc};
 ghost use Rattle.topo_writer.specs.Texts.{behind_commas, position_text, IsDifference};
-ghost use Rattle.topo_writer.specs.ArcsText.{arc_text, arcs_text_of, coded_position, coded_positions};
+ghost use Rattle.topo_writer.specs.ArcsText.{arc_text, arcs_text_of, coded_position};
+ghost use Rattle.topo_writer.specs.ArcsText.{coded_positions};
 
 use crate::texts::write_position;
 use arc_map::{ArcMap, NoMemory};
 use grid_exact::Point;
 use std::alloc::{AllocError, Global};
 
-/// The text of the value of `arcs` for the map, in its coding (TopoJSON 1.0): `[`, the arcs separated by
-/// `,`, and `]`. An arc of one position is written with that position twice. It is at most `2^26` bytes.
-/// The only error is want of memory.
+/// The text of the value of `arcs` for the map, in its coding (TopoJSON 1.0): `[`, the arcs
+/// separated by `,`, and `]`. An arc of one position is written with that position twice. It is at
+/// most `2^26` bytes. The only error is want of memory.
 pub fn arcs_text(alloc: Global, topology: &ArcMap) -> Result<Vec<u8>, NoMemory>
     ensures value { IfOk result (λ text. text.items ≡ arcs_text_of topology.now) }
     ensures short { IfOk result (λ text. vec_len text ≤ 2 ^ 26) }
@@ -37,8 +39,10 @@ fn write_arcs(out: &mut Vec<u8>, topology: &ArcMap) -> Result<(), AllocError>
 
 // Adds each arc but the first, behind a comma.
 fn write_later_arcs(out: &mut Vec<u8>, topology: &ArcMap) -> Result<(), AllocError>
-    ensures value { OnOk result (out.new.items ≡ out.old.items ++ behind_commas (map (arc_text topology.now.coded) (drop 1 topology.now.arcs))) }
-    ensures short { OnOk result (vec_len out.new ≤ vec_len out.old + 54 * sum_by length (drop 1 topology.now.arcs)) }
+    ensures value { OnOk result (out.new.items ≡ out.old.items
+        ++ behind_commas (map (arc_text topology.now.coded) (drop 1 topology.now.arcs))) }
+    ensures short { OnOk result (vec_len out.new
+        ≤ vec_len out.old + 54 * sum_by length (drop 1 topology.now.arcs)) }
 {
     for k in 1..topology.arc_count() {
         out.push(b',')?;
@@ -62,7 +66,8 @@ fn write_arc(out: &mut Vec<u8>, arc: &[Point], coded: bool) -> Result<(), AllocE
     Ok(())
 }
 
-// The positions that are written after the first: those that follow it, or itself once more where none does.
+// The positions that are written after the first: those that follow it, or itself once more where
+// none does.
 fn following(arc: &[Point]) -> &[Point]
     requires { 0 < length arc.now }
     ensures one { length arc.now ≡ 1 → result.now ≡ arc.now }
@@ -78,7 +83,8 @@ fn write_positions(
     rest: &[Point],
     coded: bool,
 ) -> Result<(), AllocError>
-    ensures value { OnOk result (out.new.items ≡ out.old.items ++ behind_commas (map position_text (coded_positions coded first rest.now))) }
+    ensures value { OnOk result (out.new.items ≡ out.old.items
+        ++ behind_commas (map position_text (coded_positions coded first rest.now))) }
     ensures short { OnOk result (vec_len out.new ≤ vec_len out.old + 26 * length rest.now) }
 {
     let mut before = first;
@@ -91,7 +97,8 @@ fn write_positions(
 
 // Adds a comma, and the position p or its difference from the one before.
 fn write_next(out: &mut Vec<u8>, before: Point, p: Point, coded: bool) -> Result<(), AllocError>
-    ensures value { OnOk result (out.new.items ≡ out.old.items ++ codes "," ++ position_text (coded_position coded before p)) }
+    ensures value { OnOk result (out.new.items ≡ out.old.items ++ codes ","
+        ++ position_text (coded_position coded before p)) }
     ensures short { OnOk result (vec_len out.new ≤ vec_len out.old + 26) }
 {
     let (x, y) = coded_numbers(before, p, coded);

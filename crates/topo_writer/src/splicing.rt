@@ -6,7 +6,8 @@ use arc_map::NoMemory;
 use std::alloc::Global;
 use topo_reader::Span;
 
-/// The text before the span, then `arcs`, then the text behind the span. The only error is want of memory.
+/// The text before the span, then `arcs`, then the text behind the span. The only error is want of
+/// memory.
 pub fn splice(alloc: Global, text: &[u8], span: Span, arcs: &[u8]) -> Result<Vec<u8>, NoMemory>
     requires order { span.start ≤ span.end }
     requires within { span.end ≤ length text.now }

@@ -16,9 +16,12 @@ use Rattle.monotone_split.proofs.Cuts.{chains_cut_map}
 
 -- ---- the chains of a map
 
-pub clear_of : (m : Map) (refs : List ChainRef) (w : Work) (k : ℕ) → AreChainsIn m refs → w ≡ work_of m refs → IsMapArrangedBeside [] m → IsClearIn w.chains w.read.points k
+pub clear_of : (m : Map) (refs : List ChainRef) (w : Work) (k : ℕ) → AreChainsIn m refs → w ≡ work_of m refs → IsMapArrangedBeside [] m
+    → IsClearIn w.chains w.read.points k
 clear_of m refs w k are is arranged =
-    subst (λ (v : Work). IsClearIn v.chains v.read.points k) (sym is) (((chains_cut_map m (map (chain_in m) refs) are.cut).arranged []).0 arranged k (λ has. let none = has.1 in absurd (omega (arith, none))))
+    subst (λ (v : Work). IsClearIn v.chains v.read.points k) (sym is)
+    (((chains_cut_map m (map (chain_in m) refs) are.cut).arranged []).0 arranged k (λ has. let none = has.1 in
+    absurd (omega (arith, none))))
 
 -- ---- one arc over three points
 
@@ -29,17 +32,22 @@ only_point town p has = at_number has.0 has.1 has.2
     at_number zero within is = is
     at_number (suc k) within is = absurd (omega arith)
 
-one_arc_arranged : (a b c town : Place) → a.x <ℤ b.x → b.x <ℤ c.x → ¬ (IsOnSegment a b town) → ¬ (IsOnSegment b c town) → EdgesAreArranged [] (edges_of_arcs 0 ((a ∷ b ∷ c ∷ []) ∷ [])) (town ∷ [])
+one_arc_arranged : (a b c town : Place) → a.x <ℤ b.x → b.x <ℤ c.x → ¬ (IsOnSegment a b town) → ¬ (IsOnSegment b c town)
+    → EdgesAreArranged [] (edges_of_arcs 0 ((a ∷ b ∷ c ∷ []) ∷ [])) (town ∷ [])
 one_arc_arranged a b c town ab bc off_first off_second =
     let own = own_lawful Plain (vertex 0 0 true a) (vertex 0 1 false b ∷ vertex 0 2 true c ∷ []) (Increasing (Left ab, (Left bc, tt))) in
     record {
       pairs = ((inr own.0.0, tt), (tt, tt));
       off = λ p has.
-          let here = only_point town p has in
-          ((λ on. absurd (off_first (subst (IsOnSegment a b) (sym here) on))), ((λ on. absurd (off_second (subst (IsOnSegment b c) (sym here) on))), tt));
+          let here = only_point town p has in (
+            (λ on. absurd (off_first (subst (IsOnSegment a b) (sym here) on))),
+            ((λ on. absurd (off_second (subst (IsOnSegment b c) (sym here) on))), tt),
+          );
     }
 
-pub arranged_of : (m : Map) (a b c town : Place) → m.arcs ≡ (a ∷ b ∷ c ∷ []) ∷ [] → m.points ≡ town ∷ [] → a.x <ℤ b.x → b.x <ℤ c.x → ¬ (IsOnSegment a b town) → ¬ (IsOnSegment b c town) → IsMapArrangedBeside [] m
+pub arranged_of : (m : Map) (a b c town : Place) → m.arcs ≡ (a ∷ b ∷ c ∷ []) ∷ [] → m.points ≡ town ∷ [] → a.x <ℤ b.x → b.x <ℤ c.x
+    → ¬ (IsOnSegment a b town) → ¬ (IsOnSegment b c town) → IsMapArrangedBeside [] m
 arranged_of m a b c town arcs points ab bc off_first off_second =
     subst (λ (pss : List (List Place)). EdgesAreArranged [] (edges_of_arcs 0 pss) m.points) (sym arcs)
-    (subst (λ (ps : List Place). EdgesAreArranged [] (edges_of_arcs 0 ((a ∷ b ∷ c ∷ []) ∷ [])) ps) (sym points) (one_arc_arranged a b c town ab bc off_first off_second))
+    (subst (λ (ps : List Place). EdgesAreArranged [] (edges_of_arcs 0 ((a ∷ b ∷ c ∷ []) ∷ [])) ps) (sym points)
+    (one_arc_arranged a b c town ab bc off_first off_second))

@@ -9,8 +9,9 @@ const TEXTS: [&str; 4] = [
     r#"{"bound":1,"chains":[{"arc":0,"from":0,"kept":[0,4],"layers":[1,3,2,1,0]},{"arc":1,"from":0,"kept":[0,1,2],"layers":[2,1,0]},{"arc":1,"from":2,"kept":[0,1],"layers":[1,0]},{"arc":2,"from":0,"kept":[0,1,2],"layers":[2,1,0]},{"arc":2,"from":2,"kept":[0,1],"layers":[1,0]}],"version":1}"#,
 ];
 
-// Texts that are no certificate: another value, a member twice, a line feed behind, a space, a zero before a
-// number, a bound above 2^30, held arcs that do not rise, and a version without its members.
+// Texts that are no certificate: another value, a member twice, a line feed behind, a space, a zero
+// before a number, a bound above 2^30, held arcs that do not rise, and a version without its
+// members.
 const OTHERS: [&str; 8] = [
     "[]",
     r#"{"bound":1,"chains":[],"version":1,"version":1}"#,

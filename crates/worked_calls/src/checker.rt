@@ -14,8 +14,8 @@ use std::alloc::{AllocError, Global};
 use std::process::Abort;
 use std::test::*;
 
-// Certificates for the arc of `bump`: the right one; with an arc that is held; with no chain; with a kept vertex too few; with
-// layers too few; and with a path that is longer than need be.
+// Certificates for the arc of `bump`: the right one; with an arc that is held; with no chain; with
+// a kept vertex too few; with layers too few; and with a path that is longer than need be.
 const TEXTS: [&str; 6] = [
     r#"{"bound":1,"chains":[{"arc":0,"from":0,"kept":[0,3],"layers":[1,1,1,0]}],"version":1}"#,
     r#"{"bound":1,"chains":[],"held":[0],"version":2}"#,
@@ -102,7 +102,8 @@ fn texts_are_compared(rt: HostRuntime) {
     assert_eq!(rt; compare(b"", b"["), Some(0));
 }
 
-// The verdict on the certificate with this text for the map, and how many positions the first arc of the judged map has.
+// The verdict on the certificate with this text for the map, and how many positions the first arc
+// of the judged map has.
 fn judged(
     alloc: Global,
     map: ArcMap,

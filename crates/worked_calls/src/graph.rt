@@ -1,4 +1,5 @@
-//! An arc from (0, 0) over (2, 2) to (4, 0) that is cut short, beside one other edge and a feature point.
+//! An arc from (0, 0) over (2, 2) to (4, 0) that is cut short, beside one other edge and a feature
+//! point.
 ghost use Rattle.std.specs.Prelude.{◌<◌, ℕ, IfOk, length};
 ghost use Rattle.arc_map.specs.Chains.{IsClearIn};
 ghost use Rattle.shortcut_graph.specs.Weighed.{IsColumn};

@@ -55,7 +55,8 @@ fn two_chains(
     IndexedMap::build(alloc, map, chains)
 }
 
-// A chain over (0, 0), (2, 1) and (4, 2), another from (3, 0) to (5, 3), and the feature point (2, 3).
+// A chain over (0, 0), (2, 1) and (4, 2), another from (3, 0) to (5, 3), and the feature point (2,
+// 3).
 fn worked(alloc: Global) -> Result<IndexedMap, Fail>
     ensures chains { IfOk result (λ map. length map.chains ≡ 2) }
     ensures long { IfOk result (λ map. length (chain_at map.chains 0).rest ≡ 2) }

@@ -1,5 +1,5 @@
-//! Each public call of the crates that decide, index and judge, once, on maps of two arcs. The tests of those crates stand here
-//! together: a crate with tests of its own is proved twice.
+//! Each public call of the crates that decide, index and judge, once, on maps of two arcs. The
+//! tests of those crates stand here together: a crate with tests of its own is proved twice.
 #![tactic(auto)]
 
 mod maps;

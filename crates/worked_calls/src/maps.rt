@@ -5,7 +5,8 @@ use arc_map::ArcMap;
 use grid_exact::Point;
 use std::alloc::{AllocError, Global};
 
-/// The map of the arc over these three positions, and a feature point. The only error is want of memory.
+/// The map of the arc over these three positions, and a feature point. The only error is want of
+/// memory.
 pub fn one_arc(
     alloc: Global,
     a: Point,
@@ -28,7 +29,8 @@ pub fn one_arc(
     Ok(ArcMap::new(arcs, points, Vec::new(alloc), false))
 }
 
-/// The map of two arcs, from a to b and from c to d, each of one edge, and a feature point. The only error is want of memory.
+/// The map of two arcs, from a to b and from c to d, each of one edge, and a feature point. The
+/// only error is want of memory.
 pub fn two_edges(
     alloc: Global,
     a: Point,
@@ -53,7 +55,8 @@ pub fn two_edges(
     Ok(ArcMap::new(arcs, points, Vec::new(alloc), false))
 }
 
-/// The map of an arc of one edge, and of an arc over three positions, and a feature point. The only error is want of memory.
+/// The map of an arc of one edge, and of an arc over three positions, and a feature point. The only
+/// error is want of memory.
 pub fn bump_beside_edge(
     alloc: Global,
     edge: (Point, Point),

@@ -53,8 +53,8 @@ fn ended_with_failing_write(alloc: Global, text: &[u8], failing: u64) -> Result<
     Ok(call.ended(alloc))
 }
 
-/// How many calls of the inputs a run over the text makes, where each call that fails ends the run with nothing
-/// written, and the run in which none fails writes `out`.
+/// How many calls of the inputs a run over the text makes, where each call that fails ends the run
+/// with nothing written, and the run in which none fails writes `out`.
 pub fn every_failing_read(
     alloc: Global,
     text: &str,
@@ -72,8 +72,8 @@ pub fn every_failing_read(
     Ok(None)
 }
 
-/// How many writes a run over the text makes, where each write that fails ends the run with what was written before
-/// it, and the run in which none fails writes `out`.
+/// How many writes a run over the text makes, where each write that fails ends the run with what
+/// was written before it, and the run in which none fails writes `out`.
 pub fn every_failing_write(
     alloc: Global,
     text: &str,

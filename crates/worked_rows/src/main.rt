@@ -1,5 +1,6 @@
-//! Runs the command's top call over memory on the worked rows of `rows.json`, and on what is made from them: each line
-//! says of a row, or of many runs of one kind, whether what comes of them is what is expected.
+//! Runs the command's top call over memory on the worked rows of `rows.json`, and on what is made
+//! from them: each line says of a row, or of many runs of one kind, whether what comes of them is
+//! what is expected.
 #![tactic(auto)]
 
 mod call;
@@ -64,7 +65,8 @@ fn run_rows<R: Print + Files + AllocGlobal>(rt: &R, rows: &[Value]) -> Result<bo
     Ok(agreeing == count)
 }
 
-// Prints the line of many runs of one kind, of which so many were as expected, or of which one was not.
+// Prints the line of many runs of one kind, of which so many were as expected, or of which one was
+// not.
 fn print_count<R: Print>(
     rt: &R,
     name: &str,

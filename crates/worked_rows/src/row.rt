@@ -135,7 +135,8 @@ fn words_in(alloc: Global, value: &Value) -> Result<Vec<String>, RowsError> {
     Ok(words)
 }
 
-// The bytes that pieces are, joined: each is a list of how often its text is repeated, and the text.
+// The bytes that pieces are, joined: each is a list of how often its text is repeated, and the
+// text.
 fn joined(alloc: Global, pieces: &[Value]) -> Result<Vec<u8>, RowsError> {
     let mut bytes = Vec::new(alloc);
     for piece in pieces.iter() {

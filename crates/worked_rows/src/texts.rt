@@ -5,8 +5,8 @@ ghost use Rattle.worked_rows.specs.Difference.{IsFirstDifference};
 
 use std::alloc::{AllocError, Global};
 
-/// The place where the two texts first differ, or None where they are equal. A text that ends before the other one
-/// differs from it at its end.
+/// The place where the two texts first differ, or None where they are equal. A text that ends
+/// before the other one differs from it at its end.
 pub fn first_difference(expected: &[u8], got: &[u8]) -> Option<usize>
     ensures equal { IsNone result ↔ (expected.now ≡ got.now) }
     ensures first { IfSome result (IsFirstDifference expected.now got.now) }

@@ -1,4 +1,5 @@
-//! Runs on maps that are made: large ones, which are to end in time, and one that is checked in two ways.
+//! Runs on maps that are made: large ones, which are to end in time, and one that is checked in two
+//! ways.
 
 use crate::call::{Call, Ended, add_text, ended_on};
 use crate::error::RowsError;
@@ -34,7 +35,8 @@ fn checked(alloc: Global, map: &[u8], out: &[u8], cert: &[u8]) -> Result<Ended, 
     Ok(Call::new(alloc, "check 3 map.json out.json cert.json", texts)?.ended(alloc))
 }
 
-/// Whether the check of a thinned map answers yes, and that of the map itself with the same certificate does not.
+/// Whether the check of a thinned map answers yes, and that of the map itself with the same
+/// certificate does not.
 pub fn checks_yes(alloc: Global) -> Result<bool, RowsError> {
     let map = made(alloc, "make 12 12 7")?;
     let out = ended_on(alloc, "simplify 3 -", "-", map.out())?;

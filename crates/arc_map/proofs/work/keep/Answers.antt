@@ -20,7 +20,8 @@ loop-place-preserved g c =
     let same = c.loop-place.invariant.length_stays in
     record {
       length_stays = search rules;
-      front = front_more before now c.args.kept.now c.loop-place.place c.index.result.now (omega (arith, later, within, same)) (omega (arith, within, same)) later (search rules) c.loop-place.invariant.front c.loop-place.invariant.behind;
+      front = front_more before now c.args.kept.now c.loop-place.place c.index.result.now (omega (arith, later, within, same))
+          (omega (arith, within, same)) later (search rules) c.loop-place.invariant.front c.loop-place.invariant.behind;
       behind = behind_more before now c.loop-place.place c.index.result.now c.loop-place.invariant.behind;
     }
 
@@ -30,4 +31,5 @@ returns g c = λ d.
     let now = c.loop-place.items.items in
     let few = rising-length (length c.args.items.now.items) kept c.requires.rising c.requires.within in
     let whole : c.loop-place.place ≡ length kept = omega (arith, c.loop-place.auto.place-end, c.loop-place-test.false) in
-    rw c.truncate.ensures.items (all_kept c.args.items.now.items now kept d (omega (arith, few, c.loop-place.invariant.length_stays)) (λ j e below. c.loop-place.invariant.front j e (omega arith)))
+    rw c.truncate.ensures.items (all_kept c.args.items.now.items now kept d (omega (arith, few, c.loop-place.invariant.length_stays))
+    (λ j e below. c.loop-place.invariant.front j e (omega arith)))

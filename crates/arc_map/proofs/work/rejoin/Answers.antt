@@ -7,7 +7,8 @@ use Rattle.arc_map.proofs.work.rejoin.Goals as goal
 pub write_at-requires : goal.write_at-requires
 write_at-requires c =
     let d = get_or c.args.chains.now c.loop-next.next c.index-chains-next-in-loop-next.result in
-    let next = run_of-next c.args.number c.args.chains.now c.loop-next.next c.index-chains-next.result c.index-chains-next-in-loop-next.result c.loop-next-test.true c.if-chains-next.true in
+    let next = run_of-next c.args.number c.args.chains.now c.loop-next.next c.index-chains-next.result
+    c.index-chains-next-in-loop-next.result c.loop-next-test.true c.if-chains-next.true in
     let behind = run_of c.args.number (drop (c.loop-next.next + 1) c.args.chains.now) in
     let vs = c.deref.ensures.value in
     let rest = rest_of c.deref.result.now ∙ ap (drop 1) vs in
@@ -18,7 +19,8 @@ write_at-requires c =
 pub loop-next-preserved : goal.loop-next-preserved
 loop-next-preserved c =
     let d = get_or c.args.chains.now c.loop-next.next c.index-chains-next-in-loop-next.result in
-    let next = run_of-next c.args.number c.args.chains.now c.loop-next.next c.index-chains-next.result c.index-chains-next-in-loop-next.result c.loop-next-test.true c.if-chains-next.true in
+    let next = run_of-next c.args.number c.args.chains.now c.loop-next.next c.index-chains-next.result
+    c.index-chains-next-in-loop-next.result c.loop-next-test.true c.if-chains-next.true in
     let behind = run_of c.args.number (drop (c.loop-next.next + 1) c.args.chains.now) in
     let vs = c.deref.ensures.value in
     let rest = rest_of c.deref.result.now ∙ ap (drop 1) vs in

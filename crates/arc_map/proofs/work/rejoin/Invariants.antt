@@ -6,7 +6,8 @@ use Rattle.arc_map.proofs.work.rejoin.Given as goal
 abbrev pub invariant-loop-next : goal.invariant-loop-next
 invariant-loop-next l = record {
   order : l.next ≤ length l.chains;
-  whole : take l.end l.arc.items ++ tails (run_of l.number (drop l.next l.chains)) ≡ rejoined l.fn.arc.items (run_of l.number (drop l.start l.chains));
+  whole : take l.end l.arc.items ++ tails (run_of l.number (drop l.next l.chains))
+      ≡ rejoined l.fn.arc.items (run_of l.number (drop l.start l.chains));
   room : l.end + length (tails (run_of l.number (drop l.next l.chains))) ≤ length l.arc.items;
   count : l.next + length (run_of l.number (drop l.next l.chains)) ≡ l.start + length (run_of l.number (drop l.start l.chains));
 }

@@ -13,7 +13,8 @@ invariant-loop-e l = record {
   left : All (IsPairOf l.map) (pairs_left l.pairs);
   long : length l.marks ≡ length l.map.arcs;
   only : MarksHeld l.map l.marks;
-  walked : Walked (λ pair. EdgesClash l.map pair.0 pair.1) (λ pair. IsMarked l.marks pair.0.arc × IsMarked l.marks pair.1.arc) (pairs_of l.index) (pairs_left l.pairs);
+  walked : Walked (λ pair. EdgesClash l.map pair.0 pair.1) (λ pair. IsMarked l.marks pair.0.arc × IsMarked l.marks pair.1.arc)
+      (pairs_of l.index) (pairs_left l.pairs);
 }
 
 abbrev pub decreases-loop-e : goal.decreases-loop-e

@@ -18,6 +18,7 @@ loop-p-preserved c =
 pub returns : goal.returns
 returns c =
     let Keeps = IsConsistent c.args.first (run_end c.args.first c.args.rest.now) (run_inner c.args.rest.now) in
-    lets_by c.args.first (run_inner c.args.rest.now) c.index-rest-rest.result (run_end c.args.first c.args.rest.now) c.args.chain.now c.joins.result
+    lets_by c.args.first (run_inner c.args.rest.now) c.index-rest-rest.result (run_end c.args.first c.args.rest.now) c.args.chain.now
+    c.joins.result
     (last_is_end c.args.first c.index-rest-rest.result c.args.rest.now c.requires c.index-rest-rest.is)
     (subst (All Keeps) (take_all c.loop-p.p-index c.args.chain.now c.loop-p-test.false) c.loop-p.invariant) c.joins.ensures

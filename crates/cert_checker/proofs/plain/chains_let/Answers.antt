@@ -11,8 +11,10 @@ pub loop-other-preserved : goal.loop-other-preserved
 loop-other-preserved c =
     let Lets = LetsRun c.args.first (run_inner c.args.rest.now) (run_end c.args.first c.args.rest.now) in
     let chains = c.args.work.now.chains in
-    others_more (λ m. 0 < length (chain_at chains m).rest → Lets (chain_places (chain_at chains m))) c.args.k c.loop-other.other c.loop-other.invariant
+    others_more (λ m. 0 < length (chain_at chains m).rest → Lets (chain_places (chain_at chains m))) c.args.k c.loop-other.other
+    c.loop-other.invariant
     (elim c.if-other-k.branch [
-      | then-other-k+else-not-chain_lets w ↦ λ other some. subst Lets w.chain.ensures.places (w.chain_lets.ensures.0 w.if-not-chain_lets.false)
+      | then-other-k+else-not-chain_lets w ↦ λ other some. subst Lets w.chain.ensures.places
+          (w.chain_lets.ensures.0 w.if-not-chain_lets.false)
       | else-other-k w ↦ λ other some. absurd (other w.if-other-k.false)
     ])

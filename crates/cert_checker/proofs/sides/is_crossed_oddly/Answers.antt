@@ -13,4 +13,5 @@ returns c =
     let rest = c.args.rest.now in
     c.is_closed_walk_crossed_oddly.ensures
     ∙ ap (λ (us : List Place). is_odd (count_edges (is_crossed c.args.p) first us))
-    (ap (λ (us : List Place). us ++ first ∷ []) (split_last first rest c.requires) ∙ append_assoc (run_inner rest) (run_end first rest ∷ []) (first ∷ []))
+    (ap (λ (us : List Place). us ++ first ∷ []) (split_last first rest c.requires)
+    ∙ append_assoc (run_inner rest) (run_end first rest ∷ []) (first ∷ []))

@@ -11,7 +11,8 @@ returns-in-Ok-record_of c = λ r fits is.
 
 pub returns : goal.returns
 returns c = λ r fits is.
-    c.in-Err-record_of.ensures r fits (c.in-Ok.ensures (record_data r) (subst (IsTextOf 2 (record_data r)) (sym is) (record_is_text r fits)))
+    c.in-Err-record_of.ensures r fits (c.in-Ok.ensures (record_data r)
+    (subst (IsTextOf 2 (record_data r)) (sym is) (record_is_text r fits)))
 
 pub returns-in-Err : goal.returns-in-Err
 returns-in-Err c = λ r fits is.

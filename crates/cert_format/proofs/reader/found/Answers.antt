@@ -10,12 +10,14 @@ use Rattle.cert_format.proofs.reader.found.Goals as goal
 
 pub returns-in-Err-clause-found : goal.returns-in-Err-clause-found
 returns-in-Err-clause-found c = λ w fits is.
-    let cut = c.cut_behind.ensures.parts (front_text w) (joined (map record_text w.entries) ++ (93 ∷ back_text w)) (front_lacks w (wide_bound w fits)) (sym is ∙ opened w) in
+    let cut = c.cut_behind.ensures.parts (front_text w) (joined (map record_text w.entries) ++ (93 ∷ back_text w))
+    (front_lacks w (wide_bound w fits)) (sym is ∙ opened w) in
     c.in-Err.ensures.taken w.entries (back_text w) fits.limits.few fits.entries cut.1
 
 pub returns-in-Err-parsed-clause-found : goal.returns-in-Err-parsed-clause-found
 returns-in-Err-parsed-clause-found c = λ w fits is.
-    let cut = c.cut_behind.ensures.parts (front_text w) (joined (map record_text w.entries) ++ (93 ∷ back_text w)) (front_lacks w (wide_bound w fits)) (sym is ∙ opened w) in
+    let cut = c.cut_behind.ensures.parts (front_text w) (joined (map record_text w.entries) ++ (93 ∷ back_text w))
+    (front_lacks w (wide_bound w fits)) (sym is ∙ opened w) in
     let records = c.in-Ok.ensures.taken w.entries (back_text w) fits.limits.few fits.entries cut.1 in
     let text : c.deref.result.now ≡ certificate_text (bare w) = c.deref.ensures.value ∙ c.in-Ok-together.ensures
     ∙ without_records w _ _ cut.0 records.1 in
@@ -23,7 +25,8 @@ returns-in-Err-parsed-clause-found c = λ w fits is.
 
 pub returns-in-Ok-taken-clause-found : goal.returns-in-Ok-taken-clause-found
 returns-in-Ok-taken-clause-found c = λ w fits is.
-    let cut = c.cut_behind.ensures.parts (front_text w) (joined (map record_text w.entries) ++ (93 ∷ back_text w)) (front_lacks w (wide_bound w fits)) (sym is ∙ opened w) in
+    let cut = c.cut_behind.ensures.parts (front_text w) (joined (map record_text w.entries) ++ (93 ∷ back_text w))
+    (front_lacks w (wide_bound w fits)) (sym is ∙ opened w) in
     let records = c.in-Ok.ensures.taken w.entries (back_text w) fits.limits.few fits.entries cut.1 in
     let text : c.deref.result.now ≡ certificate_text (bare w) = c.deref.ensures.value ∙ c.in-Ok-together.ensures
     ∙ without_records w _ _ cut.0 records.1 in
@@ -32,7 +35,8 @@ returns-in-Ok-taken-clause-found c = λ w fits is.
 
 pub returns-clause-found : goal.returns-clause-found
 returns-clause-found c = λ w fits is.
-    let cut = c.cut_behind.ensures.parts (front_text w) (joined (map record_text w.entries) ++ (93 ∷ back_text w)) (front_lacks w (wide_bound w fits)) (sym is ∙ opened w) in
+    let cut = c.cut_behind.ensures.parts (front_text w) (joined (map record_text w.entries) ++ (93 ∷ back_text w))
+    (front_lacks w (wide_bound w fits)) (sym is ∙ opened w) in
     let records = c.in-Ok.ensures.taken w.entries (back_text w) fits.limits.few fits.entries cut.1 in
     let text : c.deref.result.now ≡ certificate_text (bare w) = c.deref.ensures.value ∙ c.in-Ok-together.ensures
     ∙ without_records w _ _ cut.0 records.1 in

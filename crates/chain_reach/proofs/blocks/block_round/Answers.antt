@@ -12,4 +12,8 @@ returns c edge p low high near inside =
     let start = c.args.start in
     let end = c.args.end in
     let box = c.round.result in
-    (c.grown_within.ensures p).1 (inside, near_within c.args.steps box.low box.high p (take (end + 1 - start) (drop start walk)) c.round.ensures (near_in_part c.args.steps walk p start end edge c.requires.within low high near))
+    (c.grown_within.ensures p).1 (
+      inside,
+      near_within c.args.steps box.low box.high p (take (end + 1 - start) (drop start walk))
+          c.round.ensures (near_in_part c.args.steps walk p start end edge c.requires.within low high near),
+    )

@@ -4,7 +4,8 @@ use Rattle.dissolve.proofs.Turned.{AreTurned, turned-more, turned-all}
 use Rattle.dissolve.proofs.odd.odd_marks.Goals as goal
 
 pub loop-k-preserved : goal.loop-k-preserved
-loop-k-preserved c = turned-more c.args.map.now c.args.polygons.now c.loop-k.k-index c.polygon.result.now c.loop-k.marks.items c.turn_all.new.marks.items (omega arith) c.polygon.ensures.value c.turn_all.ensures.count c.turn_all.ensures.odd c.loop-k.invariant
+loop-k-preserved c = turned-more c.args.map.now c.args.polygons.now c.loop-k.k-index c.polygon.result.now c.loop-k.marks.items
+    c.turn_all.new.marks.items (omega arith) c.polygon.ensures.value c.turn_all.ensures.count c.turn_all.ensures.odd c.loop-k.invariant
 
 pub returns-clause-value : goal.returns-clause-value
 returns-clause-value c =

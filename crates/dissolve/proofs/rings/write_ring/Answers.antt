@@ -15,5 +15,6 @@ loop-k-preserved c =
     (step-within c.args.ring.now c.loop-k.k within) text c.in_ok-write_comma.ensures (rw (← c.number.ensures) wrote) c.loop-k.invariant
 
 pub returns : goal.returns
-returns c = list-done (map signed_decimal (references c.args.ring.now)) c.loop-k.k c.args.out.now.items c.loop-k.out.items c.push-2.new.self.items
+returns c = list-done (map signed_decimal (references c.args.ring.now)) c.loop-k.k c.args.out.now.items c.loop-k.out.items
+    c.push-2.new.self.items
     (few-steps c.args.ring.now c.loop-k.k (omega arith)) c.loop-k.invariant c.in_ok-push-2.ensures.items

@@ -6,4 +6,5 @@ use Rattle.dissolve.proofs.Entries.{entries_left}
 use Rattle.dissolve.proofs.rings.write_rings.Given as goal
 
 abbrev pub invariant-loop-k : goal.invariant-loop-k
-invariant-loop-k l = l.out.items ++ entries_left l.k (drop l.k (map ring_text (rings_of l.rings))) ≡ (l.fn.out.items ++ codes "[") ++ entries_left 0 (map ring_text (rings_of l.rings))
+invariant-loop-k l = l.out.items ++ entries_left l.k (drop l.k (map ring_text (rings_of l.rings))) ≡ (l.fn.out.items ++ codes "[")
+    ++ entries_left 0 (map ring_text (rings_of l.rings))

@@ -17,7 +17,8 @@ loop-arc-init c =
     record {
       unused = c.in_ok-unused.ensures.unused;
       even = subst (IsEven m) (sym all) (even-at-start m chosen c.arc_count-arc-end.ensures.is_map c.requires.known c.requires.even);
-      stage = subst (λ xs. IsStage m (odd_arcs m chosen) c.new-rings.result.items xs 0) (sym all) (stage-none m (odd_arcs m chosen) c.new-rings.result.items c.new-rings.ensures.items);
+      stage = subst (λ xs. IsStage m (odd_arcs m chosen) c.new-rings.result.items xs 0) (sym all)
+          (stage-none m (odd_arcs m chosen) c.new-rings.result.items c.new-rings.ensures.items);
     }
 
 pub loop-arc-preserved : goal.loop-arc-preserved
@@ -31,8 +32,12 @@ pub returns : goal.returns
 returns c =
     let m = c.args.map.now in
     let chosen = c.args.chosen.now in
-    let below : (k : ℕ) → Contains (unused_in c.loop-arc.unused) k → k < c.loop-arc.arc = λ k held. let low = marked-below c.loop-arc.unused.marks.items k held in omega (arith, low, c.loop-arc.invariant.unused.count) in
-    let is : IsBorder m chosen c.new.result = subst (IsBorder m chosen) (sym c.new.ensures) (stage-all m (odd_arcs m chosen) (unused_in c.loop-arc.unused) c.loop-arc.arc c.loop-arc.rings.items below c.loop-arc.invariant.stage) in
+    let below : (k : ℕ) → Contains (unused_in c.loop-arc.unused) k
+    → k < c.loop-arc.arc = λ k held. let low = marked-below c.loop-arc.unused.marks.items k held in
+    omega (arith, low, c.loop-arc.invariant.unused.count) in
+    let is : IsBorder m chosen c.new.result = subst (IsBorder m chosen) (sym c.new.ensures)
+    (stage-all m (odd_arcs m chosen) (unused_in c.loop-arc.unused) c.loop-arc.arc c.loop-arc.rings.items below
+    c.loop-arc.invariant.stage) in
     record {
       border = is;
       closed = border-closed m chosen c.new.result is;

@@ -8,4 +8,5 @@ loop-number-init c = rw c.new-celled.ensures.items (none-celled c.args.runs.now 
 pub returns : goal.returns
 returns c =
     let all : length c.args.runs.now ≤ c.loop-number.number = omega arith in
-    all-celled c.args.runs.now c.args.limits c.args.width c.args.height c.loop-number.number c.loop-number.celled.items all c.loop-number.invariant
+    all-celled c.args.runs.now c.args.limits c.args.width c.args.height c.loop-number.number c.loop-number.celled.items all
+    c.loop-number.invariant

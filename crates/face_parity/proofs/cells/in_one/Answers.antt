@@ -13,9 +13,13 @@ returns c =
     let start = c.partition_point-start.result in
     let count = c.partition_point-count.result in
     let rest = take_rest celled start in
-    let first = IsPartitionPoint-from_clause (λ s. nat_lt s.cell cell) celled start c.partition_point-start.ensures.partitioned (IsPartitionedBy-ltb (λ s. s.cell) celled cell c.requires) (λ a r q k. search rules) in
-    let ordered = subst (IsPartitionedBy (λ s. s.cell == cell)) (sym rest) (key_first (λ (s : Celled). s.cell) celled cell start c.requires c.partition_point-start.ensures.bound first.1) in
-    let second = IsPartitionPoint-from_clause (λ s. s.cell == cell) (take (length celled - start) (drop start celled)) count c.partition_point-count.ensures.partitioned ordered (λ a r q k. search rules) in
+    let first = IsPartitionPoint-from_clause (λ s. nat_lt s.cell cell) celled start c.partition_point-start.ensures.partitioned
+    (IsPartitionedBy-ltb (λ s. s.cell) celled cell c.requires) (λ a r q k. search rules) in
+    let ordered = subst (IsPartitionedBy (λ s. s.cell == cell)) (sym rest)
+    (key_first (λ (s : Celled). s.cell) celled cell start c.requires c.partition_point-start.ensures.bound first.1) in
+    let second = IsPartitionPoint-from_clause (λ s. s.cell == cell) (take (length celled - start) (drop start celled)) count
+    c.partition_point-count.ensures.partitioned ordered (λ a r q k. search rules) in
     let run = subst (λ s. IsPartitionPoint (λ y. (y.cell == cell) ≡ true) (λ y. (y.cell == cell) ≡ false) s count) rest second in
     let bound = subst (λ s. count ≤ length s) rest c.partition_point-count.ensures.bound in
-    ap (take count) rest ∙ key_is (λ (s : Celled). s.cell) celled cell start count c.partition_point-start.ensures.bound bound first.0 run.0 run.1
+    ap (take count) rest ∙ key_is (λ (s : Celled). s.cell) celled cell start count c.partition_point-start.ensures.bound bound first.0 run.0
+    run.1

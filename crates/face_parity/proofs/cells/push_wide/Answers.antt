@@ -10,4 +10,5 @@ returns-then-not-are_passed_by c =
 pub returns : goal.returns
 returns c =
     let some : c.are_passed_by.result ≡ true = search rules in
-    rw c.in_ok-push.ensures.items (wide-more c.args.runs.now c.args.limits c.args.number c.args.wide.now.items (sym c.are_passed_by.ensures ∙ some) c.requires.so_far)
+    rw c.in_ok-push.ensures.items (wide-more c.args.runs.now c.args.limits c.args.number c.args.wide.now.items (sym c.are_passed_by.ensures
+    ∙ some) c.requires.so_far)

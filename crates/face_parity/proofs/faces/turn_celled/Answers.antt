@@ -16,11 +16,14 @@ run-requires c =
     let runs = cells.runs.items in
     let P : Celled → Type 0 = λ e. IsOfRow e × DoesReach runs cells.limits cells.height (spot_of e).0 in
     let cell = cell_at cells.width cells.height c.args.at in
-    let within = All-weaker P (λ (e : Celled). e.run < length runs) (λ e has. has.1.run) (in_cell cell cells.celled.items) (All-filter (λ e. e.cell == cell) P cells.celled.items c.requires.cells.celled.only) in
-    All-get_or (λ (e : Celled). e.run < length runs) c.at-found.result.now c.loop-celled.celled-index none c.loop-celled-test.true (subst (All (λ (e : Celled). e.run < length runs)) (sym c.at-found.ensures) within)
+    let within = All-weaker P (λ (e : Celled). e.run < length runs) (λ e has. has.1.run) (in_cell cell cells.celled.items)
+    (All-filter (λ e. e.cell == cell) P cells.celled.items c.requires.cells.celled.only) in
+    All-get_or (λ (e : Celled). e.run < length runs) c.at-found.result.now c.loop-celled.celled-index none c.loop-celled-test.true
+    (subst (All (λ (e : Celled). e.run < length runs)) (sym c.at-found.ensures) within)
 
 pub turn_run-requires-clause-run : goal.turn_run-requires-clause-run
-turn_run-requires-clause-run c = (read-run c.args.topology.now c.args.cells.now.floors c.args.cells.now.runs.items _ c.run.result c.run.ensures c.requires.cells.runs.only).run
+turn_run-requires-clause-run c = (read-run c.args.topology.now c.args.cells.now.floors c.args.cells.now.runs.items _ c.run.result
+    c.run.ensures c.requires.cells.runs.only).run
 
 pub loop-celled-preserved : goal.loop-celled-preserved
 loop-celled-preserved c =
@@ -34,7 +37,8 @@ loop-celled-preserved c =
       tally = c.turn_run.ensures.tally;
       polygons = c.turn_run.ensures.polygons ∙ c.loop-celled.invariant.polygons;
       odd = λ k low floor.
-          turned-next (λ (e : Celled). e.run) m c.args.p k runs (is_odd_at c.loop-celled.tally k) (is_odd_at c.turn_run.new.tally k) _ c.at-found.result.now c.loop-celled.celled-index none r c.loop-celled-test.true is
+          turned-next (λ (e : Celled). e.run) m c.args.p k runs (is_odd_at c.loop-celled.tally k) (is_odd_at c.turn_run.new.tally k) _
+          c.at-found.result.now c.loop-celled.celled-index none r c.loop-celled-test.true is
           (c.turn_run.ensures.odd k low (λ named.
           let under = c.requires.cells.floors.under k r.arc low named in
           let its = run.floor in

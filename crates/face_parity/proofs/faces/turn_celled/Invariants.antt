@@ -10,5 +10,8 @@ abbrev pub invariant-loop-celled : goal.invariant-loop-celled
 invariant-loop-celled l = record {
   tally : IsTally l.tally;
   polygons : length l.tally.odd.items ≡ length l.topology.polygons;
-  odd : (k : ℕ) → k < length l.topology.polygons → slice_index l.cells.floors.polygons.items k ≤ l.at.y → differ (is_odd_at l.tally k) (pass_oddly (λ c. turns l.topology l.p k (run_at l.cells.runs.items c.run)) (drop l.celled-index l.found)) ≡ differ (is_odd_at l.fn.tally k) (pass_oddly (λ c. turns l.topology l.p k (run_at l.cells.runs.items c.run)) l.found);
+  odd : (k : ℕ) → k < length l.topology.polygons → slice_index l.cells.floors.polygons.items k ≤ l.at.y
+      → differ (is_odd_at l.tally k) (pass_oddly (λ c. turns l.topology l.p k (run_at l.cells.runs.items c.run))
+      (drop l.celled-index l.found)) ≡ differ (is_odd_at l.fn.tally k)
+      (pass_oddly (λ c. turns l.topology l.p k (run_at l.cells.runs.items c.run)) l.found);
 }

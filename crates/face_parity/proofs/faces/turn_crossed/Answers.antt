@@ -16,8 +16,11 @@ returns-clause-odd c k low floor =
     let found = in_cell (cell_at cells.width cells.height c.args.at) cells.celled.items in
     let wides = pass_oddly (λ n. turns m c.args.p k (run_at runs n)) cells.wide.items in
     c.turn_wide.ensures.odd k low floor
-    ∙ ap (λ b. differ b wides) (c.turn_celled.ensures.odd k low floor ∙ ap (λ b. differ b (pass_oddly (λ e. turns m c.args.p k (run_at runs e.run)) found)) (c.requires.even k))
-    ∙ pass-inside m cells.floors runs cells.limits cells.width cells.height cells.wide.items cells.celled.items cells.some_width cells.some_height c.requires.cells.runs c.requires.cells.wide c.requires.cells.celled c.args.p c.args.at c.requires.at (get_or m.polygons k []) (λ n within named.
+    ∙ ap (λ b. differ b wides) (c.turn_celled.ensures.odd k low floor
+    ∙ ap (λ b. differ b (pass_oddly (λ e. turns m c.args.p k (run_at runs e.run)) found)) (c.requires.even k))
+    ∙ pass-inside m cells.floors runs cells.limits cells.width cells.height cells.wide.items cells.celled.items cells.some_width
+    cells.some_height c.requires.cells.runs c.requires.cells.wide c.requires.cells.celled c.args.p c.args.at c.requires.at
+    (get_or m.polygons k []) (λ n within named.
     let run = All-get_or (IsRunOf m cells.floors) runs n (run_at [] 0) within c.requires.cells.runs.only in
     let under = c.requires.cells.floors.under k (run_at runs n).arc low named in
     let its = run.floor in

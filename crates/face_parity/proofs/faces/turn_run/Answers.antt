@@ -9,7 +9,8 @@ of_arc-requires c =
     omega (arith, within, c.requires.namings.starts)
 
 pub turn_all-requires-clause-below : goal.turn_all-requires-clause-below
-turn_all-requires-clause-below c = subst (λ n. All (λ x. x.polygon < n) c.of_arc.result.now) (sym c.requires.polygons) (c.of_arc.ensures.below (length c.args.topology.now.polygons) c.requires.namings.namings.below)
+turn_all-requires-clause-below c = subst (λ n. All (λ x. x.polygon < n) c.of_arc.result.now) (sym c.requires.polygons)
+    (c.of_arc.ensures.below (length c.args.topology.now.polygons) c.requires.namings.namings.below)
 
 pub returns-then-run-at-clause-odd : goal.returns-then-run-at-clause-odd
 returns-then-run-at-clause-odd c k low floored =

@@ -9,11 +9,14 @@ use Rattle.face_parity.proofs.faces.turn_wide.Goals as goal
 pub run-requires : goal.run-requires
 run-requires c =
     let runs = c.args.cells.now.runs.items in
-    let within = All-weaker (λ n. (n < length runs) × (is_wide c.args.cells.now.limits (run_at runs n) ≡ true)) (λ n. n < length runs) (λ n is. is.0) c.args.cells.now.wide.items c.requires.cells.wide.only in
-    All-get_or (λ n. n < length runs) c.wide-wide.result.now c.loop-number.number-index 0 c.loop-number-test.true (subst (All (λ n. n < length runs)) (sym c.wide-wide.ensures) within)
+    let within = All-weaker (λ n. (n < length runs) × (is_wide c.args.cells.now.limits (run_at runs n) ≡ true)) (λ n. n < length runs)
+    (λ n is. is.0) c.args.cells.now.wide.items c.requires.cells.wide.only in
+    All-get_or (λ n. n < length runs) c.wide-wide.result.now c.loop-number.number-index 0 c.loop-number-test.true
+    (subst (All (λ n. n < length runs)) (sym c.wide-wide.ensures) within)
 
 pub turn_run-requires-clause-run : goal.turn_run-requires-clause-run
-turn_run-requires-clause-run c = (read-run c.args.topology.now c.args.cells.now.floors c.args.cells.now.runs.items _ c.run.result c.run.ensures c.requires.cells.runs.only).run
+turn_run-requires-clause-run c = (read-run c.args.topology.now c.args.cells.now.floors c.args.cells.now.runs.items _ c.run.result
+    c.run.ensures c.requires.cells.runs.only).run
 
 pub loop-number-preserved : goal.loop-number-preserved
 loop-number-preserved c =
@@ -27,7 +30,8 @@ loop-number-preserved c =
       tally = c.turn_run.ensures.tally;
       polygons = c.turn_run.ensures.polygons ∙ c.loop-number.invariant.polygons;
       odd = λ k low floor.
-          turned-next (λ n. n) m c.args.p k runs (is_odd_at c.loop-number.tally k) (is_odd_at c.turn_run.new.tally k) _ c.wide-wide.result.now c.loop-number.number-index 0 r c.loop-number-test.true is
+          turned-next (λ n. n) m c.args.p k runs (is_odd_at c.loop-number.tally k) (is_odd_at c.turn_run.new.tally k) _
+          c.wide-wide.result.now c.loop-number.number-index 0 r c.loop-number-test.true is
           (c.turn_run.ensures.odd k low (λ named.
           let under = c.requires.cells.floors.under k r.arc low named in
           let its = run.floor in

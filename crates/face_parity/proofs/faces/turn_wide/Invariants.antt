@@ -10,5 +10,7 @@ abbrev pub invariant-loop-number : goal.invariant-loop-number
 invariant-loop-number l = record {
   tally : IsTally l.tally;
   polygons : length l.tally.odd.items ≡ length l.topology.polygons;
-  odd : (k : ℕ) → k < length l.topology.polygons → slice_index l.cells.floors.polygons.items k ≤ l.at.y → differ (is_odd_at l.tally k) (pass_oddly (λ n. turns l.topology l.p k (run_at l.cells.runs.items n)) (drop l.number-index l.wide)) ≡ differ (is_odd_at l.fn.tally k) (pass_oddly (λ n. turns l.topology l.p k (run_at l.cells.runs.items n)) l.wide);
+  odd : (k : ℕ) → k < length l.topology.polygons → slice_index l.cells.floors.polygons.items k ≤ l.at.y
+      → differ (is_odd_at l.tally k) (pass_oddly (λ n. turns l.topology l.p k (run_at l.cells.runs.items n)) (drop l.number-index l.wide))
+      ≡ differ (is_odd_at l.fn.tally k) (pass_oddly (λ n. turns l.topology l.p k (run_at l.cells.runs.items n)) l.wide);
 }

@@ -8,5 +8,6 @@ abbrev pub invariant-loop-k : goal.invariant-loop-k
 invariant-loop-k l = record {
   room : vec_len l.text + 6 + 8 * (length l.turned - l.k-index) ≤ vec_capacity l.text;
   capacity : vec_capacity l.fn.text ≤ vec_capacity l.text;
-  value : l.text.items ++ still l.some (filter (is_face l.tally l.floors l.y) (drop l.k-index l.turned)) ≡ l.fn.text.items ++ numbers_text (filter (is_face l.tally l.floors l.y) l.turned);
+  value : l.text.items ++ still l.some (filter (is_face l.tally l.floors l.y) (drop l.k-index l.turned)) ≡ l.fn.text.items
+      ++ numbers_text (filter (is_face l.tally l.floors l.y) l.turned);
 }

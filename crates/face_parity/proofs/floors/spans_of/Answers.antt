@@ -7,7 +7,8 @@ pub loop-arc-init : goal.loop-arc-init
 loop-arc-init c = rw c.new-spans.ensures.items (spans-none c.args.topology.now)
 
 pub loop-arc-preserved : goal.loop-arc-preserved
-loop-arc-preserved c = rw c.in_ok-push.ensures.items (spans-more c.args.topology.now c.loop-arc.arc c.loop-arc.spans.items c.of.result c.arc.result.now c.arc.ensures.value c.of.ensures c.loop-arc.invariant)
+loop-arc-preserved c = rw c.in_ok-push.ensures.items (spans-more c.args.topology.now c.loop-arc.arc c.loop-arc.spans.items c.of.result
+    c.arc.result.now c.arc.ensures.value c.of.ensures c.loop-arc.invariant)
 
 pub returns : goal.returns
 returns c =

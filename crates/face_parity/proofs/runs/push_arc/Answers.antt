@@ -22,7 +22,8 @@ loop-from-preserved c =
     let ps = c.arc-positions.result.now in
     let r = c.of.result in
     let to = c.min-to.result in
-    let mine : arc_at m r.arc ≡ ps = ap (arc_at m) c.of.ensures.arc ∙ get_or_from_slice_get m.arcs arc ps [] c.arc-positions.ensures.value in
+    let mine : arc_at m r.arc ≡ ps = ap (arc_at m) c.of.ensures.arc
+    ∙ get_or_from_slice_get m.arcs arc ps [] c.arc-positions.ensures.value in
     let under : IsUnder c.args.floors.now arc r.floor = omega (arith, c.of.ensures.floor, c.of_arc-floor.ensures) in
     let run : IsRunOf m c.args.floors.now r = record {
       run = subst (λ qs. IsRunIn qs r) (sym mine) c.of.ensures.run;
@@ -32,7 +33,8 @@ loop-from-preserved c =
     let long = length_push c.loop-from.runs.items r in
     let items = ap length c.in_ok-push.ensures.items in
     record {
-      runs = rw c.in_ok-push.ensures.items (runs-more m c.args.floors.now arc c.loop-from.from to c.loop-from.runs.items r c.loop-from.invariant.runs run rises c.of.ensures.arc c.of.ensures.from c.of.ensures.to);
+      runs = rw c.in_ok-push.ensures.items (runs-more m c.args.floors.now arc c.loop-from.from to c.loop-from.runs.items r
+          c.loop-from.invariant.runs run rises c.of.ensures.arc c.of.ensures.from c.of.ensures.to);
       within = omega (arith, c.min-to.ensures, c.loop-from.invariant.within);
       few = omega (arith, items, long, c.loop-from.invariant.few, rises);
     }
@@ -41,7 +43,8 @@ pub returns-clause-runs : goal.returns-clause-runs
 returns-clause-runs c =
     let m = c.args.map.now in
     let long = arc_length m c.args.arc c.arc-positions.result.now c.arc-positions.ensures.value in
-    runs-end m c.args.floors.now c.args.arc c.loop-from.from c.loop-from.runs.items (omega (arith, long, c.loop-from-test.false)) c.loop-from.invariant.runs
+    runs-end m c.args.floors.now c.args.arc c.loop-from.from c.loop-from.runs.items (omega (arith, long, c.loop-from-test.false))
+    c.loop-from.invariant.runs
 
 pub returns-clause-few : goal.returns-clause-few
 returns-clause-few c =

@@ -5,7 +5,8 @@ use Rattle.face_parity.proofs.runs.runs_of.Goals as goal
 pub loop-arc-preserved : goal.loop-arc-preserved
 loop-arc-preserved c = record {
   runs = c.in_ok-push_arc.ensures.runs;
-  few = few-more c.args.map.now.arcs c.loop-arc.arc (length c.loop-arc.runs.items) (length c.push_arc.new.runs.items) (omega arith) c.loop-arc.invariant.few c.in_ok-push_arc.ensures.few;
+  few = few-more c.args.map.now.arcs c.loop-arc.arc (length c.loop-arc.runs.items) (length c.push_arc.new.runs.items) (omega arith)
+      c.loop-arc.invariant.few c.in_ok-push_arc.ensures.few;
 }
 
 pub returns : goal.returns

@@ -5,4 +5,5 @@ use Rattle.grid_exact.specs.Crossing.{is_crossed}
 use Rattle.grid_exact.proofs.crossing.is_walk_crossed_oddly.Given as goal
 
 abbrev pub invariant-loop-q : goal.invariant-loop-q
-invariant-loop-q l = differ l.odd (is_odd (count_edges (is_crossed l.p) l.before (drop l.q-index l.rest))) ≡ is_odd (count_edges (is_crossed l.p) l.fn.first l.rest)
+invariant-loop-q l = differ l.odd (is_odd (count_edges (is_crossed l.p) l.before (drop l.q-index l.rest)))
+    ≡ is_odd (count_edges (is_crossed l.p) l.fn.first l.rest)

@@ -19,7 +19,8 @@ loop-number-preserved c =
     let xs = c.loop-number.shifts.items in
     let count : length xs ≡ vec_len c.loop-number.shifts = sym c.loop-number.shifts.ok.0 in
     let longer : vec_len c.push.new.self ≡ vec_len c.loop-number.shifts + 1 = c.in_ok-push.ensures.len in
-    let drawn : c.next-number.result ≡ number c.args.seed (vec_len c.loop-number.shifts + 1) = rw (number-more, ← c.loop-number.invariant.drawn) c.next-number.ensures.value in
+    let drawn : c.next-number.result ≡ number c.args.seed (vec_len c.loop-number.shifts + 1) =
+    rw (number-more, ← c.loop-number.invariant.drawn) c.next-number.ensures.value in
     let pushed : c.push.new.self.items ≡ xs ++ c.shift.result ∷ [] = search rules in
     let value : c.shift.result ≡ shift c.args.seed (length xs + 1) = rw (count, ← drawn) c.shift.ensures in
     record {

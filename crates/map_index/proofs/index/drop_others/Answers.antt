@@ -3,7 +3,8 @@ use Rattle.std.proofs.Common.{◌≢◌, ◌∙◌, ◌<◌, ◌+◌, false, len
 use Rattle.std.proofs.lemmas.List.{length-set, get_or_default}
 use Rattle.map_index.proofs.Dropping.{walk_passes, walk_waits, not_kept, one_kept, one_dropped}
 use Rattle.map_index.proofs.index.drop_others.Goals as goal
-use Rattle.map_index.proofs.index.drop_others.Goals.{then-next-kept+then-kept-next, else-next-kept, else-next-kept-via-then-next-kept+else-kept-next, else-next-kept-via-else-next-kept}
+use Rattle.map_index.proofs.index.drop_others.Goals.{then-next-kept+then-kept-next, else-next-kept}
+use Rattle.map_index.proofs.index.drop_others.Goals.{else-next-kept-via-then-next-kept+else-kept-next, else-next-kept-via-else-next-kept}
 
 pub loop-at-preserved : goal.loop-at-preserved
 loop-at-preserved c =
@@ -36,6 +37,7 @@ loop-at-preserved c =
             numbered = so_far.numbered;
             live_count = length-set now (first + at) false ∙ so_far.live_count;
             walked = walk_waits kept at next c.requires.rising so_far.walked other;
-            dropped = one_dropped kept first at before now room (not_kept kept at next c.requires.rising so_far.walked other) so_far.dropped;
+            dropped = one_dropped kept first at before now room (not_kept kept at next c.requires.rising so_far.walked other)
+                so_far.dropped;
           })
     ]

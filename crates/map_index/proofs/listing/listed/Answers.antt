@@ -20,14 +20,24 @@ loop-k-preserved c =
     let places = c.chain.result.now in
     let pushed = c.in_ok-push_vertices.ensures in
     record {
-      items = pushed ∙ ap (λ (zs : List Item). zs ++ map (item_of owner) places) c.loop-k.invariant.items ∙ ap (λ (ps : List Place). items_before points chains k ++ map (item_of owner) ps) c.chain.ensures.places ∙ chain_items_more points chains k below;
+      items = pushed ∙ ap (λ (zs : List Item). zs ++ map (item_of owner) places) c.loop-k.invariant.items
+          ∙ ap (λ (ps : List Place). items_before points chains k ++ map (item_of owner) ps) c.chain.ensures.places
+          ∙ chain_items_more points chains k below;
       few =
           let count = ap length pushed in
-          omega (arith, count, length-append c.loop-k.items.items (map (item_of owner) places), length-map places (item_of owner), c.chain.ensures.short, c.loop-k.invariant.few);
+          omega (
+            arith,
+            count,
+            length-append c.loop-k.items.items (map (item_of owner) places),
+            length-map places (item_of owner),
+            c.chain.ensures.short,
+            c.loop-k.invariant.few,
+          );
       firsts =
           let count : length c.loop-k.firsts.items ≡ k = search rules in
           let so_far = ap length c.loop-k.invariant.items in
-          first_more c.loop-k.firsts.items c.push_reserved.new.self.items c.len.result k (λ j. length (items_before points chains j)) c.push_reserved.ensures.items count (omega (arith, so_far, c.len.ensures, c.loop-k.items.ok.0)) c.loop-k.invariant.firsts;
+          first_more c.loop-k.firsts.items c.push_reserved.new.self.items c.len.result k (λ j. length (items_before points chains j))
+          c.push_reserved.ensures.items count (omega (arith, so_far, c.len.ensures, c.loop-k.items.ok.0)) c.loop-k.invariant.firsts;
       edges =
           let chain = chain_at chains k in
           let several = c.chain.ensures.several in

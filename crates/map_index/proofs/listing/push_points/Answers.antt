@@ -8,4 +8,5 @@ loop-k-preserved c =
     let points = c.args.work.now.read.points in
     let k = c.loop-k.k in
     let p = c.point.result in
-    rw c.in_ok-push.ensures.items (point_more c.args.items.now.items c.loop-k.items.items points k p (slice_get_within points k p c.point.ensures) (get_or_from_slice_get points k p p c.point.ensures) c.loop-k.invariant)
+    rw c.in_ok-push.ensures.items (point_more c.args.items.now.items c.loop-k.items.items points k p
+    (slice_get_within points k p c.point.ensures) (get_or_from_slice_get points k p p c.point.ensures) c.loop-k.invariant)

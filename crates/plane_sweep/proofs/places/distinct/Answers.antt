@@ -3,7 +3,8 @@ use Rattle.plane_sweep.proofs.places.distinct.Goals as goal
 
 pub loop-place-preserved : goal.loop-place-preserved
 loop-place-preserved c =
-    places_more c.args.places.now c.loop-place.rest.now c.in-Some.others.now c.in-Some.place.now c.loop-place.kept.items c.push_new.new.kept.items c.in-Some.ensures.cases.0
+    places_more c.args.places.now c.loop-place.rest.now c.in-Some.others.now c.in-Some.place.now c.loop-place.kept.items
+    c.push_new.new.kept.items c.in-Some.ensures.cases.0
     c.in_ok-push_new.ensures.kept c.in_ok-push_new.ensures.added c.loop-place.invariant
 
 pub returns : goal.returns

@@ -14,7 +14,8 @@ loop-at-preserved c =
     let some = c.loop-at.auto.at in
     let within : at < length ps = omega arith in
     let next : at - 1 + 1 ≡ at + 1 - 1 = omega (arith, some) in
-    let more = with_span m arc (at - 1) ps c.loop-at.spans.items c.span_at.result c.arc-positions.ensures.value (omega (arith, some, within)) c.span_at.ensures c.loop-at.invariant in
+    let more = with_span m arc (at - 1) ps c.loop-at.spans.items c.span_at.result c.arc-positions.ensures.value
+    (omega (arith, some, within)) c.span_at.ensures c.loop-at.invariant in
     rw c.in_ok-push.ensures.items (subst (λ n. AreSpansBefore m arc n (c.loop-at.spans.items ++ c.span_at.result ∷ [])) next more)
 
 pub returns : goal.returns

@@ -15,4 +15,5 @@ loop-arc-preserved c =
     (subst (λ (ps : List Place). All (StaysOnGrid ones) ps) here c.look_along.ensures)
 
 pub returns : goal.returns
-returns c = subst (λ (arcs : List (List Place)). All (All (StaysOnGrid ones)) arcs) (take_all c.loop-arc.arc c.args.map.now.arcs (omega arith)) c.loop-arc.invariant
+returns c = subst (λ (arcs : List (List Place)). All (All (StaysOnGrid ones)) arcs)
+    (take_all c.loop-arc.arc c.args.map.now.arcs (omega arith)) c.loop-arc.invariant

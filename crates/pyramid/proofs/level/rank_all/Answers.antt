@@ -12,4 +12,5 @@ returns c =
     let bounds = c.args.bounds.now in
     let end : c.loop-k.k ≡ length bounds = omega arith in
     let come = subst (λ (n : ℕ). IsComeTo m bounds n c.loop-k.level) end c.loop-k.invariant in
-    subst (λ (ranks : List (List ℕ)). AreRanks m bounds ranks) (sym c.new.ensures) (at-end m bounds (lists_of c.loop-k.level.ranks.items) (level_in c.loop-k.level) come.up_to)
+    subst (λ (ranks : List (List ℕ)). AreRanks m bounds ranks) (sym c.new.ensures)
+    (at-end m bounds (lists_of c.loop-k.level.ranks.items) (level_in c.loop-k.level) come.up_to)

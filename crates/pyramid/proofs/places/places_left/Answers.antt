@@ -13,7 +13,13 @@ loop-k-preserved c =
     let places = c.args.places.now in
     let entries = c.args.records.now.entries in
     let k = c.loop-k.k in
-    let r : Record = record { arc = c.get-chain.result.arc; «from» = c.get-chain.result.«from»; kept = c.get-chain.result.kept.now; layers = c.get-chain.result.layers.now } in
+    let r : Record = record {
+      arc = c.get-chain.result.arc;
+      «from» = c.get-chain.result.«from»;
+      kept = c.get-chain.result.kept.now;
+      layers =
+          c.get-chain.result.layers.now;
+    } in
     let below = slice_get_within entries k r c.get-chain.ensures in
     let here = get_or_from_slice_get entries k r r c.get-chain.ensures in
     let fits : IsWithin places r = subst (IsWithin places) here (All-get_or (IsWithin places) entries k r below c.requires.within) in
@@ -23,6 +29,8 @@ loop-k-preserved c =
     record {
       count = count ∙ c.loop-k.invariant.count;
       each = places-more places c.loop-k.left.items _ entries k r c.add_kept.new.left below here under refl
-          (added-read places c.loop-k.left.items r.arc r.«from» r.kept c.as_slice.result.now c.index_mut.result.now c.index-places-arc.result c.add_kept.new.left under inside c.index_mut.ensures.value c.index-places-arc.is c.as_slice.ensures.value c.in_ok-add_kept.ensures)
+          (added-read places c.loop-k.left.items r.arc r.«from» r.kept c.as_slice.result.now c.index_mut.result.now
+          c.index-places-arc.result c.add_kept.new.left under inside c.index_mut.ensures.value c.index-places-arc.is
+          c.as_slice.ensures.value c.in_ok-add_kept.ensures)
           c.loop-k.invariant.each;
     }

@@ -8,4 +8,5 @@ loop-at-preserved c =
     let places = c.args.places.now in
     let k = c.loop-at.at-index in
     let below = c.requires k 0 c.loop-at-test.true in
-    raised-more c.args.ranks.now.items c.loop-at.ranks.items _ places c.args.rank k (slice_index places k) c.loop-at-test.true refl (omega (arith, below, c.loop-at.invariant.long)) refl c.loop-at.invariant
+    raised-more c.args.ranks.now.items c.loop-at.ranks.items _ places c.args.rank k (slice_index places k) c.loop-at-test.true refl
+    (omega (arith, below, c.loop-at.invariant.long)) refl c.loop-at.invariant

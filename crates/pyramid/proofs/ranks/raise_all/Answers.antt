@@ -9,7 +9,9 @@ raise-requires c =
     let k = c.loop-arc.arc in
     let inside = c.loop-arc-test.true in
     let below : k < length c.loop-arc.ranks = omega (arith, inside, c.loop-arc.invariant.long, c.requires.count) in
-    within-read c.args.ranks.now c.loop-arc.ranks c.args.places.now k c.index-ranks-arc.result c.index-places-arc.result c.as_slice.result.now below inside (c.loop-arc.invariant.later k (omega arith)) c.index-places-arc.is c.as_slice.ensures.value (c.requires.within k inside)
+    within-read c.args.ranks.now c.loop-arc.ranks c.args.places.now k c.index-ranks-arc.result c.index-places-arc.result
+    c.as_slice.result.now below inside (c.loop-arc.invariant.later k (omega arith)) c.index-places-arc.is c.as_slice.ensures.value
+    (c.requires.within k inside)
 
 pub loop-arc-preserved : goal.loop-arc-preserved
 loop-arc-preserved c =
@@ -18,6 +20,9 @@ loop-arc-preserved c =
     let below : k < length c.loop-arc.ranks = omega (arith, inside, c.loop-arc.invariant.long, c.requires.count) in
     let new = c.raise.new.ranks in
     let one =
-    subst (λ (rs : List ℕ). AreRaised rs new.items (list_of c.args.places.now k) c.args.rank) (sym (list-or c.loop-arc.ranks k c.index-ranks-arc.result below))
-    (subst (λ (ps : List ℕ). AreRaised (get_or c.loop-arc.ranks k c.index-ranks-arc.result).items new.items ps c.args.rank) (c.as_slice.ensures.value ∙ sym (list-at c.args.places.now k c.index-places-arc.result inside c.index-places-arc.is)) c.raise.ensures) in
+    subst (λ (rs : List ℕ). AreRaised rs new.items (list_of c.args.places.now k) c.args.rank)
+    (sym (list-or c.loop-arc.ranks k c.index-ranks-arc.result below))
+    (subst (λ (ps : List ℕ). AreRaised (get_or c.loop-arc.ranks k c.index-ranks-arc.result).items new.items ps c.args.rank)
+    (c.as_slice.ensures.value ∙ sym (list-at c.args.places.now k c.index-places-arc.result inside c.index-places-arc.is))
+    c.raise.ensures) in
     all-raised-more c.args.ranks.now c.loop-arc.ranks _ c.args.places.now c.args.rank k new below refl one c.loop-arc.invariant

@@ -9,7 +9,8 @@ loop-k-preserved c =
     let bounds = c.args.bounds.now in
     let within : c.loop-k.k < length bounds = omega arith in
     let wrote : c.write_number.new.out.items ≡ c.write_comma.new.out.items ++ signed_decimal c.value.result = search rules in
-    let text = bound-entry bounds c.loop-k.k c.index-bounds-k.result within ∙ ap signed_decimal (sym c.index-bounds-k.is ∙ sym c.value.ensures.value) in
+    let text = bound-entry bounds c.loop-k.k c.index-bounds-k.result within
+    ∙ ap signed_decimal (sym c.index-bounds-k.is ∙ sym c.value.ensures.value) in
     entry-more (map signed_decimal bounds) c.loop-k.k c.loop-k.out.items c.write_comma.new.out.items c.write_number.new.out.items
     (signed_decimal c.value.result) _
     (bound-within bounds c.loop-k.k within) text c.in_ok-write_comma.ensures wrote c.loop-k.invariant

@@ -6,4 +6,5 @@ use Rattle.pyramid.proofs.Entries.{entries_left}
 use Rattle.pyramid.proofs.text.write_ranks.Given as goal
 
 abbrev pub invariant-loop-k : goal.invariant-loop-k
-invariant-loop-k l = l.out.items ++ entries_left l.k (drop l.k (map numbers_text (lists_of l.ranks))) ≡ (l.fn.out.items ++ codes "[") ++ entries_left 0 (map numbers_text (lists_of l.ranks))
+invariant-loop-k l = l.out.items ++ entries_left l.k (drop l.k (map numbers_text (lists_of l.ranks))) ≡ (l.fn.out.items ++ codes "[")
+    ++ entries_left 0 (map numbers_text (lists_of l.ranks))

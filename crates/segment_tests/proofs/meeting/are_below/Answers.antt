@@ -13,4 +13,5 @@ returns c =
     let low : FitsSigned w64 c.min.result = omega (arith, fits) in
     let most : c.max.result ≡ int_max c.args.a c.args.b = simp (to_z-of_z, c.ranges.a, c.ranges.b) at c.max.ensures.value in
     let least : c.min.result ≡ int_min c.args.c c.args.d = simp (to_z-of_z, c.ranges.c, c.ranges.d) at c.min.ensures.value in
-    below_tested w64 c.max.result c.min.result (int_max c.args.a c.args.b) (int_min c.args.c c.args.d) high low most least (below_by_max c.args.a c.args.b c.args.c c.args.d)
+    below_tested w64 c.max.result c.min.result (int_max c.args.a c.args.b) (int_min c.args.c c.args.d) high low most least
+    (below_by_max c.args.a c.args.b c.args.c c.args.d)

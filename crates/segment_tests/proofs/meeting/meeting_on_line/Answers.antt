@@ -15,12 +15,15 @@ pub meeting_in_order-requires-else-precedes-3-clause-d_on_line : goal.meeting_in
 meeting_in_order-requires-else-precedes-3-clause-d_on_line c = flat_turned c.args.a c.args.b c.args.c c.requires.c_on_line
 
 pub returns-else-precedes-2 : goal.returns-else-precedes-2
-returns-else-precedes-2 c = meets_second_turned c.meeting_in_order-else-precedes-2.result c.args.a c.args.b c.args.d c.args.c c.meeting_in_order-else-precedes-2.ensures
+returns-else-precedes-2 c = meets_second_turned c.meeting_in_order-else-precedes-2.result c.args.a c.args.b c.args.d c.args.c
+    c.meeting_in_order-else-precedes-2.ensures
 
 pub returns-then-precedes-3 : goal.returns-then-precedes-3
-returns-then-precedes-3 c = meets_first_turned c.meeting_in_order-then-precedes-3.result c.args.b c.args.a c.args.c c.args.d c.meeting_in_order-then-precedes-3.ensures
+returns-then-precedes-3 c = meets_first_turned c.meeting_in_order-then-precedes-3.result c.args.b c.args.a c.args.c c.args.d
+    c.meeting_in_order-then-precedes-3.ensures
 
 pub returns-else-precedes-3 : goal.returns-else-precedes-3
 returns-else-precedes-3 c =
     let r = c.meeting_in_order-else-precedes-3.result in
-    meets_first_turned r c.args.b c.args.a c.args.c c.args.d (meets_second_turned r c.args.b c.args.a c.args.d c.args.c c.meeting_in_order-else-precedes-3.ensures)
+    meets_first_turned r c.args.b c.args.a c.args.c c.args.d (meets_second_turned r c.args.b c.args.a c.args.d c.args.c
+    c.meeting_in_order-else-precedes-3.ensures)

@@ -8,13 +8,15 @@ use Rattle.shortcut_graph.proofs.corridor.lowered.Goals as goal
 
 pub unreachable-requires : goal.unreachable-requires
 unreachable-requires c =
-    let grid = low_on_grid c.y.result c.value.result c.max.result c.y.ensures.on_grid c.value.ensures.low c.value.ensures.high c.max.ensures.value in
+    let grid = low_on_grid c.y.result c.value.result c.max.result c.y.ensures.on_grid c.value.ensures.low c.value.ensures.high
+    c.max.ensures.value in
     let none = c.in-None.ensures.on_grid.1 (passed_on_grid c.x.result c.x.ensures.on_grid, passed_on_grid c.max.result grid) in
     absurd (cc)
 
 pub returns-clause-up : goal.returns-clause-up
 returns-clause-up c =
-    let grid = low_on_grid c.y.result c.value.result c.max.result c.y.ensures.on_grid c.value.ensures.low c.value.ensures.high c.max.ensures.value in
+    let grid = low_on_grid c.y.result c.value.result c.max.result c.y.ensures.on_grid c.value.ensures.low c.value.ensures.high
+    c.max.ensures.value in
     let up : c.in-Some.low.y ≡ c.max.result = ap (λ (p : Place). p.y) c.in-Some.ensures.value ∙ passed c.max.result grid in
     let sum = difference_passed c.y.result c.value.result c.y.ensures.on_grid c.value.ensures.low c.value.ensures.high in
     let most = c.max.ensures.self_bound in

@@ -7,4 +7,5 @@ use Rattle.shortcut_graph.proofs.course.closes.Goals as goal
 pub returns-clause-lets : goal.returns-clause-lets
 returns-clause-lets c i order cone lets =
     let r = c.args.ruler.now in
-    lets_taken c.args.cone.now c.take.new.self (place_at r.xs.now r.ys.now) (length r.xs.now) r.bound i c.args.end c.point_at.result cone order c.point_at.ensures c.take.ensures.near lets
+    lets_taken c.args.cone.now c.take.new.self (place_at r.xs.now r.ys.now) (length r.xs.now) r.bound i c.args.end c.point_at.result cone
+    order c.point_at.ensures c.take.ensures.near lets

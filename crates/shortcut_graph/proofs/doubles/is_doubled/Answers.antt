@@ -6,7 +6,8 @@ use Rattle.shortcut_graph.proofs.Twins.{AreItsEnds, listed_within, found, none_f
 use Rattle.shortcut_graph.proofs.doubles.is_doubled.Goals as goal
 
 pub is_twin-requires : goal.is_twin-requires
-is_twin-requires c = listed_within c.args.map.now.chains c.index-chain-0.result c.chains_at-other-items.result.now c.loop-other.other-index c.chains_at-other-items.ensures c.loop-other-test.true
+is_twin-requires c = listed_within c.args.map.now.chains c.index-chain-0.result c.chains_at-other-items.result.now c.loop-other.other-index
+    c.chains_at-other-items.ensures c.loop-other-test.true
 
 pub returns-then-is_twin : goal.returns-then-is_twin
 returns-then-is_twin c =
@@ -15,7 +16,8 @@ returns-then-is_twin c =
       first = first_read chain c.chain-chain.result.now c.index-chain-0.result c.chain-chain.ensures.places c.index-chain-0.is;
       last = last_read chain c.chain-chain.result.now c.index-chain-chain.result c.chain-chain.ensures.places c.index-chain-chain.is;
     } in
-    let within = listed_within c.args.map.now.chains c.index-chain-0.result c.chains_at-other-items.result.now c.loop-other.other-index c.chains_at-other-items.ensures c.loop-other-test.true in
+    let within = listed_within c.args.map.now.chains c.index-chain-0.result c.chains_at-other-items.result.now c.loop-other.other-index
+    c.chains_at-other-items.ensures c.loop-other-test.true in
     (λ t. found c.args.map.now.chains c.args.k _ _ _ ends within (c.if-is_twin.ensures.0 t), λ d. refl)
 
 pub returns : goal.returns
@@ -26,5 +28,6 @@ returns c =
       last = last_read chain c.chain-chain.result.now c.index-chain-chain.result c.chain-chain.ensures.places c.index-chain-chain.is;
     } in (
       λ t. absurd (cc),
-      λ d. absurd (none_found c.args.map.now.chains c.args.k c.loop-other.other-index _ _ c.chains_at-other-items.result.now ends c.chains_at-other-items.ensures c.loop-other.invariant c.loop-other-test.false d),
+      λ d. absurd (none_found c.args.map.now.chains c.args.k c.loop-other.other-index _ _ c.chains_at-other-items.result.now ends
+          c.chains_at-other-items.ensures c.loop-other.invariant c.loop-other-test.false d),
     )

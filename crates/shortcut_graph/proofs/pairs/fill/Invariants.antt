@@ -8,5 +8,6 @@ use Rattle.shortcut_graph.proofs.pairs.fill.Given as goal
 abbrev pub invariant-loop-start : goal.invariant-loop-start
 invariant-loop-start l = record {
   count : length l.row ≡ length (chain_at l.map.chains l.k).rest + 1;
-  filled : IsFilledTo (IsAllowedPair (IsWithinBound l.ruler.weights.x l.ruler.weights.y l.ruler.bound) l.map.chains l.map.read.points l.k) (length (chain_at l.map.chains l.k).rest) l.rows l.start;
+  filled : IsFilledTo (IsAllowedPair (IsWithinBound l.ruler.weights.x l.ruler.weights.y l.ruler.bound) l.map.chains l.map.read.points l.k)
+      (length (chain_at l.map.chains l.k).rest) l.rows l.start;
 }

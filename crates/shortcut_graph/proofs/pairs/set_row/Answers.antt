@@ -5,7 +5,8 @@ use Rattle.error_cone.specs.Courses.{IsConeFrom, LetsNear}
 use Rattle.error_cone.specs.declared.cone.Cone.{Cone}
 use Rattle.error_cone.proofs.Courses.{lets_later, none_near}
 use Rattle.shortcut_graph.specs.Weighed.{IsNearRun}
-use Rattle.shortcut_graph.proofs.Filling.{IsClearFrom, IsRowTo, IsWritten, SameRows, clear_later, clear_more, row_done, row_more, row_none, same_more}
+use Rattle.shortcut_graph.proofs.Filling.{IsClearFrom, IsRowTo, IsWritten, SameRows, clear_later, clear_more, row_done, row_more, row_none}
+use Rattle.shortcut_graph.proofs.Filling.{same_more}
 use Rattle.shortcut_graph.proofs.pairs.set_row.Goals as goal
 use Rattle.shortcut_graph.proofs.pairs.set_row.Goals.{then-allows, else-allows+else-closes}
 
@@ -15,12 +16,18 @@ returns-then-closes-clause-row c =
     let start = c.args.start in
     let end = c.loop-end.end in
     let held = c.loop-end.invariant in
-    let P : ℕ → Type 0 = λ j. (j ≡ start + 1) ⊎ (IsTrue (get_or c.args.is_open.now j false) × IsNearRun r.xs.now r.ys.now r.bound start j) in
+    let P : ℕ → Type 0 = λ j. (j ≡ start + 1) ⊎ (IsTrue (get_or c.args.is_open.now j false) × IsNearRun r.xs.now r.ys.now r.bound start j)
+    in
     let fails : ¬ (P end) = (λ h. elim h [ inl e ↦ absurd (omega arith) | inr g ↦ let yes = c.allows.ensures.1 g in absurd (cc) ]) in
-    let far = none_near c.closes.new.cone (place_at r.xs.now r.ys.now) (length r.xs.now) r.bound start (end + 1) (omega arith) (c.closes.ensures.start start held.cone) (c.closes.ensures.lets start (omega arith) held.cone held.lets) (c.closes.ensures.closed c.if-closes.true) in
+    let far = none_near c.closes.new.cone (place_at r.xs.now r.ys.now) (length r.xs.now) r.bound start (end + 1) (omega arith)
+    (c.closes.ensures.start start held.cone) (c.closes.ensures.lets start (omega arith) held.cone held.lets)
+    (c.closes.ensures.closed c.if-closes.true) in
     let later : (j : ℕ) → end + 1 ≤ j → j < length c.args.is_open.now → ¬ (P j) =
-    (λ j up high h. elim h [ inl e ↦ absurd (omega arith) | inr g ↦ far j up (omega arith) (λ k after before. g.1 k (omega arith) before) ]) in
-    (row_done P c.loop-end.rows start (end + 1) (length c.args.is_open.now) c.requires.size later (clear_later c.loop-end.rows start end held.rest) (row_none P c.loop-end.rows start end (omega arith) fails held.rest held.row)).each
+    (λ j up high h. elim h [ inl e ↦ absurd (omega arith) | inr g ↦ far j up (omega arith) (λ k after before. g.1 k (omega arith) before) ])
+    in
+    (row_done P c.loop-end.rows start (end + 1) (length c.args.is_open.now) c.requires.size later
+    (clear_later c.loop-end.rows start end held.rest) (row_none P c.loop-end.rows start end (omega arith) fails held.rest
+    held.row)).each
 
 pub loop-end-preserved : goal.loop-end-preserved
 loop-end-preserved c =
@@ -30,28 +37,38 @@ loop-end-preserved c =
     let end = c.loop-end.end in
     let before = c.loop-end.rows in
     let held = c.loop-end.invariant in
-    let P : ℕ → Type 0 = λ j. (j ≡ start + 1) ⊎ (IsTrue (get_or c.args.is_open.now j false) × IsNearRun r.xs.now r.ys.now r.bound start j) in
+    let P : ℕ → Type 0 = λ j. (j ≡ start + 1) ⊎ (IsTrue (get_or c.args.is_open.now j false) × IsNearRun r.xs.now r.ys.now r.bound start j)
+    in
     elim c.if-allows.branch [
       | then-allows w ↦
           let after = w.set-then-allows.new.self in
-          let written : IsWritten before after start end true = record { bit = w.set-then-allows.ensures.bit; others = w.set-then-allows.ensures.others } in
+          let written : IsWritten before after start end true =
+          record { bit = w.set-then-allows.ensures.bit; others = w.set-then-allows.ensures.others } in
           record {
-            row = subst (λ (ws : List ℕ). IsRowTo P ws start (end + 1)) (sym w.rows-is) (row_more P before after start end (omega arith) (omega arith) written (inr (c.allows.ensures.0 w.if-allows.true)) held.row);
-            rest = subst (λ (ws : List ℕ). IsClearFrom ws start (end + 1)) (sym w.rows-is) (clear_more before after start end true (omega arith) written held.rest);
-            others = subst (λ (ws : List ℕ). SameRows c.args.rows.now ws start) (sym w.rows-is) (same_more c.args.rows.now before after start end true written held.others);
+            row = subst (λ (ws : List ℕ). IsRowTo P ws start (end + 1)) (sym w.rows-is)
+                (row_more P before after start end (omega arith) (omega arith) written (inr (c.allows.ensures.0 w.if-allows.true))
+                held.row);
+            rest = subst (λ (ws : List ℕ). IsClearFrom ws start (end + 1)) (sym w.rows-is)
+                (clear_more before after start end true (omega arith) written held.rest);
+            others = subst (λ (ws : List ℕ). SameRows c.args.rows.now ws start) (sym w.rows-is)
+                (same_more c.args.rows.now before after start end true written held.others);
             corridor = c.take-in-loop-end.ensures start held.corridor;
             cone = subst (λ (x : Cone). IsConeFrom x place (length r.xs.now) r.bound start) (sym w.cone-is) held.cone;
-            lets = subst (λ (x : Cone). LetsNear x place (length r.xs.now) r.bound start (end + 1)) (sym w.cone-is) (lets_later c.loop-end.cone place (length r.xs.now) r.bound start end held.lets);
+            lets = subst (λ (x : Cone). LetsNear x place (length r.xs.now) r.bound start (end + 1)) (sym w.cone-is)
+                (lets_later c.loop-end.cone place (length r.xs.now) r.bound start end held.lets);
           }
       | else-allows+else-closes w ↦
           let fails : ¬ (P end) = (λ h. elim h [ inl e ↦ absurd (omega arith) | inr g ↦ let yes = c.allows.ensures.1 g in absurd (cc) ]) in
           record {
-            row = subst (λ (ws : List ℕ). IsRowTo P ws start (end + 1)) (sym w.rows-is) (row_none P before start end (omega arith) fails held.rest held.row);
+            row = subst (λ (ws : List ℕ). IsRowTo P ws start (end + 1)) (sym w.rows-is)
+                (row_none P before start end (omega arith) fails held.rest held.row);
             rest = subst (λ (ws : List ℕ). IsClearFrom ws start (end + 1)) (sym w.rows-is) (clear_later before start end held.rest);
             others = subst (λ (ws : List ℕ). SameRows c.args.rows.now ws start) (sym w.rows-is) held.others;
             corridor = c.take-in-loop-end.ensures start held.corridor;
-            cone = subst (λ (x : Cone). IsConeFrom x place (length r.xs.now) r.bound start) (sym w.cone-is) (w.closes.ensures.start start held.cone);
-            lets = subst (λ (x : Cone). LetsNear x place (length r.xs.now) r.bound start (end + 1)) (sym w.cone-is) (w.closes.ensures.lets start (omega arith) held.cone held.lets);
+            cone = subst (λ (x : Cone). IsConeFrom x place (length r.xs.now) r.bound start) (sym w.cone-is)
+                (w.closes.ensures.start start held.cone);
+            lets = subst (λ (x : Cone). LetsNear x place (length r.xs.now) r.bound start (end + 1)) (sym w.cone-is)
+                (w.closes.ensures.lets start (omega arith) held.cone held.lets);
           }
     ]
 

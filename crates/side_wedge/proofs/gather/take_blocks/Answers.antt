@@ -24,4 +24,5 @@ loop-start-preserved c = record {
 pub returns-clause-strays : goal.returns-clause-strays
 returns-clause-strays c t =
     let s = c.args.subject.now in
-    all_taken s.frame s.rising s.chain.now s.number s.steps c.args.map.now c.loop-start.start c.loop-start.strays.items (omega (arith, c.loop-start-test.false)) c.loop-start.invariant.taken
+    all_taken s.frame s.rising s.chain.now s.number s.steps c.args.map.now c.loop-start.start c.loop-start.strays.items
+    (omega (arith, c.loop-start-test.false)) c.loop-start.invariant.taken

@@ -16,6 +16,7 @@ returns-in-Some-Some c t frame rising first second v sv left right =
     let start = c.args.start in
     let p = c.in-Some-Some.p in
     let q = c.in-Some-Some.q in
-    crossed_limits frame rising start p q v (λ on. not_both c.is_on_hand.result t (c.is_on_hand.ensures.1 on)) (first p c.in-Some-Some.is-0) (second q c.in-Some-Some.is-1) sv
+    crossed_limits frame rising start p q v (λ on. not_both c.is_on_hand.result t (c.is_on_hand.ensures.1 on)) (first p c.in-Some-Some.is-0)
+    (second q c.in-Some-Some.is-1) sv
     (subst (λ (o : Option Place). IsWithinLimit Left c.args.start o v) c.in-Some-Some.is-0 left)
     (subst (λ (o : Option Place). IsWithinLimit Right c.args.start o v) c.in-Some-Some.is-1 right)

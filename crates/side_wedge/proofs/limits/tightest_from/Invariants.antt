@@ -10,7 +10,9 @@ abbrev pub invariant-loop-ahead : goal.invariant-loop-ahead
 invariant-loop-ahead l = record {
   in_lists : l.at ≤ length l.xs;
   reached : l.from ≤ l.at;
-  so_far : (frame : Frame) (rising : Bool) → IsAlong frame rising l.start l.fn.first → EachBetween l.from (length l.xs) (IsAlong frame rising l.start) l.xs l.ys → IsTightestOf frame rising l.hand l.start (Some l.fn.first) l.xs l.ys l.from l.at (Some l.limit);
+  so_far : (frame : Frame) (rising : Bool) → IsAlong frame rising l.start l.fn.first
+      → EachBetween l.from (length l.xs) (IsAlong frame rising l.start) l.xs l.ys
+      → IsTightestOf frame rising l.hand l.start (Some l.fn.first) l.xs l.ys l.from l.at (Some l.limit);
 }
 
 abbrev pub decreases-loop-ahead : goal.decreases-loop-ahead

@@ -7,4 +7,5 @@ pub returns-else-strays-at : goal.returns-else-strays-at
 returns-else-strays-at c =
     let x = c.index-strays-at.result in
     let high = subst (λ (y : Stray). c.args.row ≤ y.row) (sym c.index-strays-at.is) c.if-strays-at.false in
-    start_here c.args.strays.now c.args.row c.loop-at.at x c.requires.sorted (omega (arith, c.loop-at-test.true)) c.index-strays-at.is high c.loop-at.invariant.below
+    start_here c.args.strays.now c.args.row c.loop-at.at x c.requires.sorted (omega (arith, c.loop-at-test.true)) c.index-strays-at.is high
+    c.loop-at.invariant.below

@@ -12,9 +12,12 @@ returns c =
     let start = c.partition_point-start.result in
     let count = c.partition_point-count.result in
     let rest = take_rest edges start in
-    let first = IsPartitionPoint-from_clause (λ s. nat_lt s.slab slab) edges start c.partition_point-start.ensures.partitioned (IsPartitionedBy-ltb (λ s. s.slab) edges slab c.requires) (λ a r q k. search rules) in
-    let ordered = subst (IsPartitionedBy (λ s. s.slab == slab)) (sym rest) (slab_first edges slab start c.requires c.partition_point-start.ensures.bound first.1) in
-    let second = IsPartitionPoint-from_clause (λ s. s.slab == slab) (take (length edges - start) (drop start edges)) count c.partition_point-count.ensures.partitioned ordered (λ a r q k. search rules) in
+    let first = IsPartitionPoint-from_clause (λ s. nat_lt s.slab slab) edges start c.partition_point-start.ensures.partitioned
+    (IsPartitionedBy-ltb (λ s. s.slab) edges slab c.requires) (λ a r q k. search rules) in
+    let ordered = subst (IsPartitionedBy (λ s. s.slab == slab)) (sym rest)
+    (slab_first edges slab start c.requires c.partition_point-start.ensures.bound first.1) in
+    let second = IsPartitionPoint-from_clause (λ s. s.slab == slab) (take (length edges - start) (drop start edges)) count
+    c.partition_point-count.ensures.partitioned ordered (λ a r q k. search rules) in
     let run = subst (λ s. IsPartitionPoint (λ y. (y.slab == slab) ≡ true) (λ y. (y.slab == slab) ≡ false) s count) rest second in
     let bound = subst (λ s. count ≤ length s) rest c.partition_point-count.ensures.bound in
     ap (take count) rest ∙ slab_is edges slab start count c.partition_point-start.ensures.bound bound first.0 run.0 run.1

@@ -4,4 +4,5 @@ use Rattle.worked_calls.proofs.graph.is_allowed.Goals as goal
 
 pub fill-requires-clause-weighed : goal.fill-requires-clause-weighed
 fill-requires-clause-weighed c =
-    rw (c.in-Some.ensures.value, c.deref.ensures.value, c.deref-2.ensures.value, ← c.chain-places.ensures.places) (weighed_by_one c.chain-places.result.now c.in_ok-xs.xs.items c.in_ok-ys.ys.items c.in_ok-xs.ensures c.in_ok-ys.ensures)
+    rw (c.in-Some.ensures.value, c.deref.ensures.value, c.deref-2.ensures.value, ← c.chain-places.ensures.places)
+    (weighed_by_one c.chain-places.result.now c.in_ok-xs.xs.items c.in_ok-ys.ys.items c.in_ok-xs.ensures c.in_ok-ys.ensures)

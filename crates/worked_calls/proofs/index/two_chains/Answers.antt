@@ -14,8 +14,10 @@ build-requires c =
     let y = c.in_ok-to_vec-2.field-0 in
     let long : x.items ≡ c.args.a ∷ c.args.b ∷ c.args.c ∷ [] = search rules in
     let short : y.items ≡ c.args.d ∷ c.args.e ∷ [] = search rules in
-    let both : c.push_reserved-2.new.self.items ≡ x ∷ y ∷ [] = rw (c.push_reserved-2.ensures.items, c.push_reserved.ensures.items, c.in_ok-arcs.ensures.items) refl in
-    let arcs : c.new-map.result.arcs ≡ two_arcs c.args.a c.args.b c.args.c c.args.d c.args.e = rw (c.new-map.ensures.value, both, long, short) refl in
+    let both : c.push_reserved-2.new.self.items ≡ x ∷ y ∷ [] = rw
+    (c.push_reserved-2.ensures.items, c.push_reserved.ensures.items, c.in_ok-arcs.ensures.items) refl in
+    let arcs : c.new-map.result.arcs ≡ two_arcs c.args.a c.args.b c.args.c c.args.d c.args.e =
+    rw (c.new-map.ensures.value, both, long, short) refl in
     let refs : c.in_ok-chains.chains.items ≡ two_refs = search rules in
     let first : IsRising c.args.a c.args.b = record { across = c.requires.across.0; up = c.requires.up.0 } in
     let second : IsRising c.args.b c.args.c = record { across = c.requires.across.1; up = c.requires.up.1 } in
@@ -27,10 +29,12 @@ returns-clause-long c =
     let m = c.new-map.result in
     let refs = c.in_ok-chains.chains.items in
     let are : refs ≡ two_refs = search rules in
-    IfOk-weaker c.build.result (λ (w : Work). w ≡ work_of m refs) (λ (w : Work). length (chain_at w.chains 0).rest ≡ 2) (λ w is. first_is_long m refs w are is) c.build.ensures
+    IfOk-weaker c.build.result (λ (w : Work). w ≡ work_of m refs) (λ (w : Work). length (chain_at w.chains 0).rest ≡ 2) (λ w is.
+    first_is_long m refs w are is) c.build.ensures
 
 pub returns-clause-read : goal.returns-clause-read
 returns-clause-read c =
     let m = c.new-map.result in
     let refs = c.in_ok-chains.chains.items in
-    IfOk-weaker c.build.result (λ (w : Work). w ≡ work_of m refs) (λ (w : Work). (k : ℕ) → k < length w.chains → IsAsRead w k) (λ w is. all_as_read m refs w is) c.build.ensures
+    IfOk-weaker c.build.result (λ (w : Work). w ≡ work_of m refs) (λ (w : Work). (k : ℕ) → k < length w.chains
+    → IsAsRead w k) (λ w is. all_as_read m refs w is) c.build.ensures

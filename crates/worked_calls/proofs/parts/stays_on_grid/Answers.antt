@@ -17,4 +17,5 @@ loop-arc-preserved c =
 pub returns : goal.returns
 returns c = λ _.
     let arcs = c.args.map.now.arcs in
-    subst (λ (pss : List (List Place)). All (All (StaysOnGrid c.args.weights)) pss) (take_all c.loop-arc.arc arcs (omega arith)) c.loop-arc.invariant
+    subst (λ (pss : List (List Place)). All (All (StaysOnGrid c.args.weights)) pss) (take_all c.loop-arc.arc arcs (omega arith))
+    c.loop-arc.invariant

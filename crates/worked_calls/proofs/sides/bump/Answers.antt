@@ -11,4 +11,5 @@ returns c =
     let arcs : c.new-2.result.arcs ≡ (c.args.a ∷ c.args.b ∷ c.args.c ∷ []) ∷ [] = rw (c.new-2.ensures.value, one, long) refl in
     let town : c.in_ok-points.points.items ≡ c.args.town ∷ [] = search rules in
     let points : c.new-2.result.points ≡ c.args.town ∷ [] = rw (c.new-2.ensures.value, town) refl in
-    arranged_of c.new-2.result c.args.a c.args.b c.args.c c.args.town arcs points c.requires.rising.0 c.requires.rising.1 c.requires.off.0 c.requires.off.1
+    arranged_of c.new-2.result c.args.a c.args.b c.args.c c.args.town arcs points c.requires.rising.0 c.requires.rising.1 c.requires.off.0
+    c.requires.off.1

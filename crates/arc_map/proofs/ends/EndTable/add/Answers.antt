@@ -11,12 +11,15 @@ returns c = λ p.
     let places = c.self.inside.places.keys in
     let lists = map (λ list. list.items) c.self.inside.lists.items in
     let at = c.in_ok-at.at in
-    let is : position (is_same c.args.place) places ≡ Some at = subst (λ (t : EndLists). position (is_same c.args.place) t.places ≡ Some at) (sym c.self.view_is) c.in_ok-at.ensures.index in
+    let is : position (is_same c.args.place) places ≡ Some at =
+    subst (λ (t : EndLists). position (is_same c.args.place) t.places ≡ Some at) (sym c.self.view_is) c.in_ok-at.ensures.index in
     let stands = stands-position places c.args.place at is in
     let inside = stands.inside in
     let count = length-map c.self.inside.lists.items (λ list. list.items) in
-    let here = mapped-at (λ list. list.items) c.self.inside.lists.items at c.index_mut.result.now [] (omega (arith, inside, c.self.invariant)) c.index_mut.ensures.value in
-    let added = listed-added places lists c.args.place at c.index_mut.result.now.items c.args.chain (omega (arith, count, c.self.invariant)) stands here p in
+    let here = mapped-at (λ list. list.items) c.self.inside.lists.items at c.index_mut.result.now []
+    (omega (arith, inside, c.self.invariant)) c.index_mut.ensures.value in
+    let added = listed-added places lists c.args.place at c.index_mut.result.now.items c.args.chain (omega (arith, count, c.self.invariant))
+    stands here p in
     let before = listed c.args.self.now.places c.args.self.now.lists p in
     let kept = subst (λ (t : EndLists). listed t.places t.lists p ≡ before) (sym c.self.view_is) (c.in_ok-at.ensures.lists p) in
     let pushed : c.push.new.self.items ≡ c.index_mut.result.now.items ++ c.args.chain ∷ [] = search rules in

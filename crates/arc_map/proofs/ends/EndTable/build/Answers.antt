@@ -21,7 +21,9 @@ loop-k-preserved c = λ p.
     let two = c.in_ok-add-2.ensures p ∙ ap (λ q. cond (is_same p q) (between ++ k ∷ []) between) last in
     let added = two ∙ ap (λ ns. cond (is_same p (end_of chain.first chain.rest).place) (ns ++ k ∷ []) ns) one in
     subst (AreEndingBelow chains (k + 1) p) (sym added)
-    (ends_added chains k p old (ends_differ chain vs is c.chain-chain.ensures.several c.chain-chain.ensures.distinct) (c.loop-k.invariant p))
+    (ends_added chains k p old (ends_differ chain vs is c.chain-chain.ensures.several c.chain-chain.ensures.distinct)
+    (c.loop-k.invariant p))
 
 pub returns : goal.returns
-returns c = λ p. all_ending c.args.work.now.chains c.loop-k.k p (listed c.loop-k.table.places c.loop-k.table.lists p) (search rules) (c.loop-k.invariant p)
+returns c = λ p. all_ending c.args.work.now.chains c.loop-k.k p (listed c.loop-k.table.places c.loop-k.table.lists p) (search rules)
+    (c.loop-k.invariant p)

@@ -15,7 +15,8 @@ returns-in-Some c =
     let stands = stands-position places c.args.p c.in-Some.at at in
     let inside = stands.inside in
     let count = length-map c.self.inside.lists.items (λ list. list.items) in
-    let here = mapped-at (λ list. list.items) c.self.inside.lists.items c.in-Some.at c.index.result.now [] (omega (arith, inside, c.self.invariant)) c.index.ensures in
+    let here = mapped-at (λ list. list.items) c.self.inside.lists.items c.in-Some.at c.index.result.now []
+    (omega (arith, inside, c.self.invariant)) c.index.ensures in
     let found = listed-at places lists c.args.p c.in-Some.at (omega (arith, count, c.self.invariant)) stands ∙ here in
     rw (c.as_slice.ensures, ← c.self.view_is) (sym found)
 

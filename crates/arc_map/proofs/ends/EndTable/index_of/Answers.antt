@@ -10,5 +10,7 @@ returns-then-is_new-clause-lists c = λ p.
     let lists = map (λ list. list.items) c.self.inside.lists.items in
     let keys : c.insert_full.new.self.keys ≡ places ++ c.args.place ∷ [] = search rules in
     let items : c.push_reserved.new.self.items ≡ c.self.inside.lists.items ++ c.new.result ∷ [] = search rules in
-    let made = map-append (λ list. list.items) c.self.inside.lists.items (c.new.result ∷ []) ∙ ap (λ ns. lists ++ ns ∷ []) c.new.ensures.items in
-    rw (keys, items, made, ← c.self.view_is) (listed-new_place places lists c.args.place (omega (arith, length-map c.self.inside.lists.items (λ list. list.items), c.self.invariant)) p)
+    let made = map-append (λ list. list.items) c.self.inside.lists.items (c.new.result ∷ [])
+    ∙ ap (λ ns. lists ++ ns ∷ []) c.new.ensures.items in
+    rw (keys, items, made, ← c.self.view_is) (listed-new_place places lists c.args.place
+    (omega (arith, length-map c.self.inside.lists.items (λ list. list.items), c.self.invariant)) p)

@@ -7,7 +7,8 @@ use Rattle.arc_map.proofs.map.ArcMap.arc.Goals as goal
 pub returns-clause-is_arc : goal.returns-clause-is_arc
 returns-clause-is_arc c =
     let here = subst (λ (m : Map). c.args.k < length m.arcs) (sym c.self.view_is) c.requires in
-    rw c.as_slice.ensures.value (of_mapped IsArc (λ arc. arc.items) c.self.inside.arcs.items c.args.k c.index.result.now here c.index.ensures c.self.invariant.arcs)
+    rw c.as_slice.ensures.value (of_mapped IsArc (λ arc. arc.items) c.self.inside.arcs.items c.args.k c.index.result.now here
+    c.index.ensures c.self.invariant.arcs)
 
 pub returns-clause-short : goal.returns-clause-short
 returns-clause-short c =

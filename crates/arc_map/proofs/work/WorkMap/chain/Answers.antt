@@ -19,7 +19,8 @@ returns-clause-places c =
     let here : c.args.k < length live = omega (arith, within, length-map live (live_chain m)) in
     let is = of_item (IsLive m) live c.args.k x here c.index.ensures c.self.invariant.chains in
     let same = mapped-at (live_chain m) live c.args.k x no_chain here c.index.ensures in
-    rw (c.as_slice.ensures.value, is.positions, ← c.self.view_is, same) (sym (numbered_places m x.place x.numbers.items (omega (arith, is.spans.several)) is.spans.first))
+    rw (c.as_slice.ensures.value, is.positions, ← c.self.view_is, same)
+    (sym (numbered_places m x.place x.numbers.items (omega (arith, is.spans.several)) is.spans.first))
 
 pub returns-clause-short : goal.returns-clause-short
 returns-clause-short c =

@@ -37,11 +37,14 @@ rejoin-next-requires-clause-room c =
     let n = c.loop-number.number in
     let k = known c.self.inside c.args.self c.self.view_is c.self.invariant in
     let first = c.into_parts-arcs.result.0 in
-    let size = sym (ap (λ (w : Work). length w.read.arcs) c.self.view_is) ∙ ap (λ (v : Map). length v.arcs) c.into_parts-arcs.ensures.value ∙ length-map first.items (λ arc. arc.items) in
+    let size = sym (ap (λ (w : Work). length w.read.arcs) c.self.view_is) ∙ ap (λ (v : Map). length v.arcs) c.into_parts-arcs.ensures.value
+    ∙ length-map first.items (λ arc. arc.items) in
     let below : n < length m.arcs = omega (arith, size, first.ok.0, c.len-number-end.ensures, c.loop-number-test.true) in
-    let coming = next_arc m cs arcs n c.loop-number.next k.walks k.linked c.loop-number.invariant.left c.loop-number.invariant.proper below in
+    let coming = next_arc m cs arcs n c.loop-number.next k.walks k.linked c.loop-number.invariant.left c.loop-number.invariant.proper below
+    in
     let inside = coming.inside in
-    let here = mapped-at (λ arc. arc.items) vecs n c.index_mut.result.now [] (omega (arith, inside, length-map vecs (λ arc. arc.items))) c.index_mut.ensures.value in
+    let here = mapped-at (λ arc. arc.items) vecs n c.index_mut.result.now [] (omega (arith, inside, length-map vecs (λ arc. arc.items)))
+    c.index_mut.ensures.value in
     let size = ap length (sym here ∙ coming.arc) in
     rw c.deref.ensures.value (omega (arith, size, coming.joined.room))
 
@@ -55,7 +58,8 @@ loop-number-preserved c =
     let next = c.loop-number.next in
     let k = known c.self.inside c.args.self c.self.view_is c.self.invariant in
     let first = c.into_parts-arcs.result.0 in
-    let size = sym (ap (λ (w : Work). length w.read.arcs) c.self.view_is) ∙ ap (λ (v : Map). length v.arcs) c.into_parts-arcs.ensures.value ∙ length-map first.items (λ arc. arc.items) in
+    let size = sym (ap (λ (w : Work). length w.read.arcs) c.self.view_is) ∙ ap (λ (v : Map). length v.arcs) c.into_parts-arcs.ensures.value
+    ∙ length-map first.items (λ arc. arc.items) in
     let below : n < length m.arcs = omega (arith, size, first.ok.0, c.len-number-end.ensures, c.loop-number-test.true) in
     let old : IsSettled m cs arcs n next = record {
       known = c.loop-number.invariant.known;
@@ -67,12 +71,16 @@ loop-number-preserved c =
     let more = settle_more m cs arcs n next k.walks k.linked below old in
     let coming = next_arc m cs arcs n next k.walks k.linked old.left old.proper below in
     let inside = coming.inside in
-    let here = mapped-at (λ arc. arc.items) vecs n c.index_mut.result.now [] (omega (arith, inside, length-map vecs (λ arc. arc.items))) c.index_mut.ensures.value in
-    let run : run_of n (drop next c.deref.result.now) ≡ run_of n (drop next cs) = ap (λ ds. run_of n (drop next ds)) c.deref.ensures.value in
-    let arc = c.rejoin-next.ensures.arc ∙ ap (rejoined c.index_mut.result.now.items) run ∙ ap (λ ps. rejoined ps (run_of n (drop next cs))) (sym here) in
+    let here = mapped-at (λ arc. arc.items) vecs n c.index_mut.result.now [] (omega (arith, inside, length-map vecs (λ arc. arc.items)))
+    c.index_mut.ensures.value in
+    let run : run_of n (drop next c.deref.result.now) ≡ run_of n (drop next cs) =
+    ap (λ ds. run_of n (drop next ds)) c.deref.ensures.value in
+    let arc = c.rejoin-next.ensures.arc ∙ ap (rejoined c.index_mut.result.now.items) run
+    ∙ ap (λ ps. rejoined ps (run_of n (drop next cs))) (sym here) in
     let made = map-set (λ arc. arc.items) vecs n c.rejoin-next.new.arc ∙ ap (set arcs n) arc in
     let result = c.rejoin-next.ensures.next ∙ ap (λ r. next + length r) run in
-    let whole = subst (λ ps. IsSettled m cs ps (n + 1) c.rejoin-next.result) (sym made) (subst (λ r. IsSettled m cs (set arcs n (rejoined (get_or arcs n []) (run_of n (drop next cs)))) (n + 1) r) (sym result) more) in
+    let whole = subst (λ ps. IsSettled m cs ps (n + 1) c.rejoin-next.result) (sym made)
+    (subst (λ r. IsSettled m cs (set arcs n (rejoined (get_or arcs n []) (run_of n (drop next cs)))) (n + 1) r) (sym result) more) in
     record {
       known = whole.known;
       count = length-set vecs n c.rejoin-next.new.arc ∙ c.loop-number.invariant.count;
@@ -89,7 +97,8 @@ new-requires c =
     let vecs = c.loop-number.arcs.items in
     let first = map (λ arc. arc.items) c.into_parts-arcs.result.0.items in
     let same : length (map (λ arc. arc.items) vecs) ≡ length first =
-    length-map vecs (λ arc. arc.items) ∙ c.loop-number.invariant.count ∙ sym (ap (λ (m : Map). length m.arcs) read) ∙ ap (λ (m : Map). length m.arcs) c.into_parts-arcs.ensures.value in
+    length-map vecs (λ arc. arc.items) ∙ c.loop-number.invariant.count ∙ sym (ap (λ (m : Map). length m.arcs) read)
+    ∙ ap (λ (m : Map). length m.arcs) c.into_parts-arcs.ensures.value in
     let sum : sum_by length c.args.self.read.arcs ≡ sum_by length first =
     sym (ap (λ (m : Map). sum_by length m.arcs) read) ∙ ap (λ (m : Map). sum_by length m.arcs) c.into_parts-arcs.ensures.value in
     record {

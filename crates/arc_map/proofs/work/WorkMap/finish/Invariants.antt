@@ -9,7 +9,9 @@ abbrev pub invariant-loop-number : goal.invariant-loop-number
 invariant-loop-number l = record {
   known : l.next ≤ length l.chains.items;
   count : length l.arcs.items ≡ length l.fn.self.read.arcs;
-  settled : take l.number (map (λ arc. arc.items) l.arcs.items) ++ arcs_now l.number (drop l.number l.fn.self.read.arcs) (map (live_chain l.fn.self.read) (drop l.next l.chains.items)) ≡ arcs_now 0 l.fn.self.read.arcs l.fn.self.chains;
+  settled : take l.number (map (λ arc. arc.items) l.arcs.items)
+      ++ arcs_now l.number (drop l.number l.fn.self.read.arcs) (map (live_chain l.fn.self.read) (drop l.next l.chains.items))
+      ≡ arcs_now 0 l.fn.self.read.arcs l.fn.self.chains;
   left : drop l.number (map (λ arc. arc.items) l.arcs.items) ≡ drop l.number l.fn.self.read.arcs;
   proper : All IsArc (map (λ arc. arc.items) l.arcs.items);
   fewer : sum_by length (map (λ arc. arc.items) l.arcs.items) ≤ sum_by length l.fn.self.read.arcs;

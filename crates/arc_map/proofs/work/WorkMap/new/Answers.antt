@@ -21,15 +21,18 @@ loop-place-preserved c =
     let r = get_or refs i (record { arc = 0; «from» = 0; to = 0; frame = Plain }) in
     let more = take_more refs i (record { arc = 0; «from» = 0; to = 0; frame = Plain }) here in
     record {
-      read = rw (more, c.push_reserved.ensures.items) (zipped-push (IsRead c.args.map) (take i refs) c.loop-place.live.items r c.in_ok-read_chain.field-0 c.loop-place.invariant.read c.in_ok-read_chain.ensures);
+      read = rw (more, c.push_reserved.ensures.items) (zipped-push (IsRead c.args.map) (take i refs) c.loop-place.live.items r
+          c.in_ok-read_chain.field-0 c.loop-place.invariant.read c.in_ok-read_chain.ensures);
       count = search rules;
       room = search rules;
     }
 
-all_read : (m : Map) (refs refs' : List ChainRef) (i : ℕ) (cs : List LiveChain) → refs ≡ refs' → length refs ≤ i → AllZip (IsRead m) (take i refs) cs → AllZip (IsRead m) refs' cs
+all_read : (m : Map) (refs refs' : List ChainRef) (i : ℕ) (cs : List LiveChain) → refs ≡ refs' → length refs ≤ i
+    → AllZip (IsRead m) (take i refs) cs → AllZip (IsRead m) refs' cs
 all_read m refs refs' i cs same whole read = subst (λ rs. AllZip (IsRead m) rs cs) (take_all i refs whole ∙ same) read
 
-few_chains : (m : Map) (refs : List ChainRef) (cs : List LiveChain) → sum_by length m.arcs ≤ 2 ^ 20 → AreChainsIn m refs → map (λ c. c.place) cs ≡ refs → length cs ≤ 2 ^ 20
+few_chains : (m : Map) (refs : List ChainRef) (cs : List LiveChain) → sum_by length m.arcs ≤ 2 ^ 20 → AreChainsIn m refs
+    → map (λ c. c.place) cs ≡ refs → length cs ≤ 2 ^ 20
 few_chains m refs cs few are places =
     let count = count_of_arcs 0 m.arcs (map (chain_in m) refs) are.cut in
     omega (arith, count, length-map refs (chain_in m), length-map cs (λ c. c.place), ap length places)
@@ -39,15 +42,18 @@ invariant_of-result c =
     let m = c.args.map in
     let refs = c.args.chains.items in
     let cs = c.loop-place.live.items in
-    let read = all_read m c.deref-place-items.result.now refs c.loop-place.place-index cs c.deref-place-items.ensures.value c.loop-place-test.false c.loop-place.invariant.read in
+    let read = all_read m c.deref-place-items.result.now refs c.loop-place.place-index cs c.deref-place-items.ensures.value
+    c.loop-place-test.false c.loop-place.invariant.read in
     let places = refs_read m refs cs read in
     let few = subst (λ (v : Map). sum_by length v.arcs ≤ 2 ^ 20) c.map.view_is c.map.invariant.few_positions in
     let are : AreChainsIn m refs = record { lie = c.requires.lie; cut = c.requires.cut } in
     record {
       few = few_chains m refs cs few are places;
       joined = rw places (joined_refs m refs c.requires.lie (linked_of_arcs 0 m.arcs (map (chain_in m) refs) c.requires.cut));
-      in_order = rw places (refs_in_order m refs c.requires.lie (linked_of_arcs 0 m.arcs (map (chain_in m) refs) c.requires.cut) (by_arc_of_arcs 0 m.arcs (map (chain_in m) refs) c.requires.cut));
-      chains = All-from_recursion (IsLive m) cs (all_live m refs cs read c.requires.lie (runs_of_arcs 0 m.arcs (map (chain_in m) refs) c.requires.cut));
+      in_order = rw places (refs_in_order m refs c.requires.lie (linked_of_arcs 0 m.arcs (map (chain_in m) refs) c.requires.cut)
+          (by_arc_of_arcs 0 m.arcs (map (chain_in m) refs) c.requires.cut));
+      chains = All-from_recursion (IsLive m) cs (all_live m refs cs read c.requires.lie
+          (runs_of_arcs 0 m.arcs (map (chain_in m) refs) c.requires.cut));
     }
 
 pub returns : goal.returns
@@ -55,7 +61,8 @@ returns c =
     let m = c.args.map in
     let refs = c.args.chains.items in
     let cs = c.loop-place.live.items in
-    let read = all_read m c.deref-place-items.result.now refs c.loop-place.place-index cs c.deref-place-items.ensures.value c.loop-place-test.false c.loop-place.invariant.read in
+    let read = all_read m c.deref-place-items.result.now refs c.loop-place.place-index cs c.deref-place-items.ensures.value
+    c.loop-place-test.false c.loop-place.invariant.read in
     let places = refs_read m refs cs read in
     let chains = chains_read m refs cs read c.requires.lie in
     cc

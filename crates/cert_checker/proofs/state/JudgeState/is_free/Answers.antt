@@ -6,4 +6,5 @@ use Rattle.cert_checker.proofs.Holding.{held_told}
 use Rattle.cert_checker.proofs.state.JudgeState.is_free.Goals as goal
 
 pub returns : goal.returns
-returns c = λ k. held_told c.self.inside.held c.args.place.arc c.has.result c.has.ensures ∙ ap (λ (s : Judging). is_free s.held (k, c.args.place)) c.self.view_is
+returns c = λ k. held_told c.self.inside.held c.args.place.arc c.has.result c.has.ensures
+    ∙ ap (λ (s : Judging). is_free s.held (k, c.args.place)) c.self.view_is

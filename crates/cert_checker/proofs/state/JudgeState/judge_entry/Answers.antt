@@ -18,10 +18,12 @@ pub weigh_all-requires-clause-on_grid : goal.weigh_all-requires-clause-on_grid
 weigh_all-requires-clause-on_grid c =
     let w = c.args.self.now.work in
     let e = ap (λ (s : Judging). s.work) c.self.view_is in
-    let places = c.chain.ensures.places ∙ ap (λ (v : Work). chain_places (chain_at v.chains c.args.k)) e ∙ ap chain_places c.requires.read in
+    let places = c.chain.ensures.places ∙ ap (λ (v : Work). chain_places (chain_at v.chains c.args.k)) e
+    ∙ ap chain_places c.requires.read in
     let are = subst (λ (s : Judging). AreChainsIn s.work.read s.work.refs) c.self.view_is c.self.invariant.known.lie in
     All-same (StaysOnGrid c.args.weights) c.chain.result.now (chain_places (chain_read w.read w.refs c.args.k)) places
-    (read_places (StaysOnGrid c.args.weights) w.read (get_or w.refs c.args.k no_ref) (are.lie c.args.k no_ref c.requires.place) c.requires.on_grid)
+    (read_places (StaysOnGrid c.args.weights) w.read (get_or w.refs c.args.k no_ref) (are.lie c.args.k no_ref c.requires.place)
+    c.requires.on_grid)
 
 pub refusal-requires : goal.refusal-requires
 refusal-requires c =
@@ -29,8 +31,10 @@ refusal-requires c =
       subject = record {
         known = subst (λ (s : Judging). c.args.k < length s.work.chains) (sym c.self.view_is) c.requires.chain;
         chains = c.self.invariant.known.chains;
-        clear = c.self.invariant.known.arranged c.args.k (λ has. c.requires.free (subst (λ (s : Judging). Contains s.held (chain_at s.work.chains c.args.k).first.arc) c.self.view_is has));
-        weighed = c.as_slice.ensures.value ∙ c.weigh_all.ensures.value ∙ ap (map (weighted c.args.weights.x c.args.weights.y)) c.chain.ensures.places;
+        clear = c.self.invariant.known.arranged c.args.k (λ has.
+            c.requires.free (subst (λ (s : Judging). Contains s.held (chain_at s.work.chains c.args.k).first.arc) c.self.view_is has));
+        weighed = c.as_slice.ensures.value ∙ c.weigh_all.ensures.value
+            ∙ ap (map (weighted c.args.weights.x c.args.weights.y)) c.chain.ensures.places;
       };
     }
 

@@ -14,7 +14,11 @@ returns c p =
             record { left = west.1; right = east.1; bottom = south.1; top = north.1 },
           ),
       λ h. record {
-        from_low = record { across = (low.across p.x).1 (h.0.from_low.across, h.1.left); up = (low.up p.y).1 (h.0.from_low.up, h.1.bottom) };
+        from_low = record {
+          across = (low.across p.x).1 (h.0.from_low.across, h.1.left);
+          up =
+              (low.up p.y).1 (h.0.from_low.up, h.1.bottom);
+        };
         to_high = record { across = (high.across p.x).1 (h.0.to_high.across, h.1.right); up = (high.up p.y).1 (h.0.to_high.up, h.1.top) };
       },
     )

@@ -12,7 +12,8 @@ use Rattle.chain_replace.proofs.run.RunState.finish.Goals as goal
 
 pub adopt-requires : goal.adopt-requires
 adopt-requires c =
-    subst (λ (m : Map). IsMapArranged c.self.inside.terms.held m) (sym c.finish.ensures) (arranged_now (progress_of c.self.inside) c.self.invariant.sound)
+    subst (λ (m : Map). IsMapArranged c.self.inside.terms.held m) (sym c.finish.ensures)
+    (arranged_now (progress_of c.self.inside) c.self.invariant.sound)
 
 pub returns-clause-faces : goal.returns-clause-faces
 returns-clause-faces c =
@@ -21,4 +22,5 @@ returns-clause-faces c =
     let done = subst (λ (q : Progress). q.next ≡ length q.work.chains) (sym c.self.view_is) c.requires in
     let made = ap (λ (h : Holding). h.map) c.adopt.ensures ∙ c.finish.ensures in
     subst (λ (q : Progress). KeepsFaces q.terms.held q.work.read c.adopt.result.map) c.self.view_is
-    (subst (λ (m : Map). KeepsFaces p.terms.held p.work.read m) (sym made) (outcome_keeps_faces p.work.read p.terms (map_so_far p) p.records sound.was (outcome_at_end p sound done)))
+    (subst (λ (m : Map). KeepsFaces p.terms.held p.work.read m) (sym made)
+    (outcome_keeps_faces p.work.read p.terms (map_so_far p) p.records sound.was (outcome_at_end p sound done)))

@@ -13,7 +13,8 @@ abbrev records_for : ℕ → ℕ → Records
 records_for chains places = record { entries = []; room = chains; kept_room = places; layers_room = places }
 
 pub build-requires : goal.build-requires
-build-requires c = subst (λ (n : Map). AreChainsIn n c.in_ok-chains.chains.items) (c.map.ensures.same ∙ sym c.into_map.ensures) c.in_ok-chains.ensures.chains
+build-requires c = subst (λ (n : Map). AreChainsIn n c.in_ok-chains.chains.items) (c.map.ensures.same ∙ sym c.into_map.ensures)
+    c.in_ok-chains.ensures.chains
 
 pub invariant_of-result : goal.invariant_of-result
 invariant_of-result c =
@@ -33,4 +34,5 @@ invariant_of-result c =
           ∙ ap (λ (n : ℕ). records_for (length c.work-work.result.now.chains) n) vertices
           ∙ ap (λ (w : Work). records_for (length w.chains) (vertices_in w.chains)) c.work-work.ensures;
     })
-    chains was c.requires (subst (λ (w : Work). length w.chains ≤ 2 ^ 20) c.work-work.ensures (omega (arith, room, c.chain_count.ensures.few)))
+    chains was c.requires (subst (λ (w : Work). length w.chains ≤ 2 ^ 20) c.work-work.ensures
+    (omega (arith, room, c.chain_count.ensures.few)))

@@ -14,8 +14,10 @@ returns-clause-lists c = λ p.
     let at = c.in_ok-at.at in
     let stands = stands-position places c.args.place at c.in_ok-at.ensures.index in
     let count = length-map table.lists.items (λ list. list.items) in
-    let here = mapped-at (λ list. list.items) table.lists.items at c.index_mut.result.now [] c.in_ok-at.ensures.within c.index_mut.ensures.value in
-    let added = listed-added places lists c.args.place at c.index_mut.result.now.items c.args.arc (omega (arith, count, c.in_ok-at.ensures.count)) stands here p in
+    let here = mapped-at (λ list. list.items) table.lists.items at c.index_mut.result.now [] c.in_ok-at.ensures.within
+    c.index_mut.ensures.value in
+    let added = listed-added places lists c.args.place at c.index_mut.result.now.items c.args.arc
+    (omega (arith, count, c.in_ok-at.ensures.count)) stands here p in
     let kept = c.in_ok-at.ensures.lists p in
     let pushed : c.push.new.self.items ≡ c.index_mut.result.now.items ++ c.args.arc ∷ [] = search rules in
     let made = map-set (λ list. list.items) table.lists.items at c.push.new.self ∙ ap (set lists at) pushed in

@@ -10,5 +10,7 @@ returns-then-is_new-clause-lists c = λ p.
     let lists = map (λ list. list.items) c.args.self.now.lists.items in
     let keys : c.insert_full.new.self.keys ≡ places ++ c.args.place ∷ [] = search rules in
     let items : c.push_reserved.new.self.items ≡ c.args.self.now.lists.items ++ c.new.result ∷ [] = search rules in
-    let made = map-append (λ list. list.items) c.args.self.now.lists.items (c.new.result ∷ []) ∙ ap (λ ns. lists ++ ns ∷ []) c.new.ensures.items in
-    rw (keys, items, made) (listed-new_place places lists c.args.place (omega (arith, length-map c.args.self.now.lists.items (λ list. list.items), c.requires)) p)
+    let made = map-append (λ list. list.items) c.args.self.now.lists.items (c.new.result ∷ [])
+    ∙ ap (λ ns. lists ++ ns ∷ []) c.new.ensures.items in
+    rw (keys, items, made) (listed-new_place places lists c.args.place
+    (omega (arith, length-map c.args.self.now.lists.items (λ list. list.items), c.requires)) p)

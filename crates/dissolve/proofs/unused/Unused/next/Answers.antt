@@ -8,7 +8,8 @@ use Rattle.dissolve.specs.Unused.{arcs_at}
 use Rattle.dissolve.proofs.unused.Unused.next.Goals as goal
 
 pub take_at-requires-clause-known : goal.take_at-requires-clause-known
-take_at-requires-clause-known c = λ p. subst (λ n. All (λ k. k < n) (arcs_at c.args.self.now p)) (sym c.requires.count) (c.requires.each p).known
+take_at-requires-clause-known c = λ p. subst (λ n. All (λ k. k < n) (arcs_at c.args.self.now p)) (sym c.requires.count)
+    (c.requires.each p).known
 
 pub begins_at-requires : goal.begins_at-requires
 begins_at-requires c = taken-known c.args.map.now c.args.self.now c.take_at.new.self c.args.at c.in-Some.arc c.requires c.in-Some.ensures
@@ -22,10 +23,12 @@ returns-in-Some-clause-next c =
     (told-apart first c.args.at c.begins_at.result c.begins_at.ensures)
 
 pub returns-in-Some-clause-known : goal.returns-in-Some-clause-known
-returns-in-Some-clause-known c = taken-known c.args.map.now c.args.self.now c.take_at.new.self c.args.at c.in-Some.arc c.requires c.in-Some.ensures
+returns-in-Some-clause-known c = taken-known c.args.map.now c.args.self.now c.take_at.new.self c.args.at c.in-Some.arc c.requires
+    c.in-Some.ensures
 
 pub returns-in-Some-clause-unused : goal.returns-in-Some-clause-unused
-returns-in-Some-clause-unused c = taken-unused c.args.map.now c.args.self.now c.take_at.new.self c.args.at c.in-Some.arc c.requires c.in-Some.ensures
+returns-in-Some-clause-unused c = taken-unused c.args.map.now c.args.self.now c.take_at.new.self c.args.at c.in-Some.arc c.requires
+    c.in-Some.ensures
 
 pub returns-in-Some-clause-left : goal.returns-in-Some-clause-left
 returns-in-Some-clause-left c = taken-left c.args.self.now c.take_at.new.self c.args.at c.in-Some.arc c.in-Some.ensures

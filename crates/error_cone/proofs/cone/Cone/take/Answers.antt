@@ -11,9 +11,18 @@ returns-then-way-value-clause-lets c = λ v past.
     let w = c.args.self.now in
     let way = c.way_between-way.result in
     let up = narrowed w.bound way w.above c.steepest.result c.flatter-self.result c.flatter-self.ensures.limit c.steepest.ensures.limit in
-    let down = narrowed w.bound (mirrored way) w.below c.steepest-then-way-value.result c.flatter-self-then-way-value.result c.flatter-self-then-way-value.ensures.limit (subst (λ (x : Way). (d : Way) → pos 0 ≤ℤ d.across → IsUnder c.steepest-then-way-value.result d ↔ IsUnderSquare w.bound x d) c.mirror.ensures c.steepest-then-way-value.ensures.limit) in
-    let both = lets_taken w c.args.p v c.flatter-self.result c.flatter-self-then-way-value.result (taken w c.args.p way c.flatter-self.result c.flatter-self-then-way-value.result c.way_between-way.ensures.way (omega (arith, fits)) up down) past in
-    (λ h. both.0 (record { above_lets = h.above; below_lets = h.below }), λ h. let lim = both.1 h in record { above = lim.above_lets; below = lim.below_lets })
+    let down = narrowed w.bound (mirrored way) w.below c.steepest-then-way-value.result c.flatter-self-then-way-value.result
+    c.flatter-self-then-way-value.ensures.limit (subst (λ (x : Way). (d : Way) → pos 0 ≤ℤ d.across
+    → IsUnder c.steepest-then-way-value.result d ↔ IsUnderSquare w.bound x d) c.mirror.ensures c.steepest-then-way-value.ensures.limit)
+    in
+    let both = lets_taken w c.args.p v c.flatter-self.result c.flatter-self-then-way-value.result
+    (taken w c.args.p way c.flatter-self.result c.flatter-self-then-way-value.result c.way_between-way.ensures.way (omega (arith, fits))
+    up down) past in (
+      λ h. both.0 (record { above_lets = h.above; below_lets = h.below }),
+      λ h. let lim = both.1 h in
+          record { above = lim.above_lets; below = lim.below_lets },
+    )
 
 pub returns-then-way-value-clause-near : goal.returns-then-way-value-clause-near
-returns-then-way-value-clause-near c = λ v past near lets. (returns-then-way-value-clause-lets c v past).1 (lets, passes_near c.args.self.now c.args.p v (omega (arith, fits)) near)
+returns-then-way-value-clause-near c = λ v past near lets. (returns-then-way-value-clause-lets c v past).1
+    (lets, passes_near c.args.self.now c.args.p v (omega (arith, fits)) near)

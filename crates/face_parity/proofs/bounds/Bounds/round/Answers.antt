@@ -8,8 +8,10 @@ pub loop-p-preserved : goal.loop-p-preserved
 loop-p-preserved c =
     let within : c.loop-p.p-index < length c.args.positions.now = search rules in
     record {
-      round = round-more c.args.positions.now c.loop-p.p-index c.p-item.result c.loop-p.bounds c.with-bounds.result c.of-in-loop-p.result within c.p-item.is c.with-bounds.ensures c.of-in-loop-p.ensures c.loop-p.invariant.round;
-      small = small-more c.loop-p.bounds c.with-bounds.result c.p-item.result c.of-in-loop-p.result c.with-bounds.ensures c.of-in-loop-p.ensures c.loop-p.invariant.small;
+      round = round-more c.args.positions.now c.loop-p.p-index c.p-item.result c.loop-p.bounds c.with-bounds.result c.of-in-loop-p.result
+          within c.p-item.is c.with-bounds.ensures c.of-in-loop-p.ensures c.loop-p.invariant.round;
+      small = small-more c.loop-p.bounds c.with-bounds.result c.p-item.result c.of-in-loop-p.result c.with-bounds.ensures
+          c.of-in-loop-p.ensures c.loop-p.invariant.small;
     }
 
 pub returns-clause-round : goal.returns-clause-round

@@ -6,4 +6,5 @@ pub in_one-requires : goal.in_one-requires
 in_one-requires c = rw c.as_slice.ensures.value c.args.self.now.sorted
 
 pub returns : goal.returns
-returns c = c.in_one.ensures ∙ ap (in_cell c.cell-cell.result) c.as_slice.ensures.value ∙ ap (λ n. in_cell n c.args.self.now.celled.items) c.cell-cell.ensures
+returns c = c.in_one.ensures ∙ ap (in_cell c.cell-cell.result) c.as_slice.ensures.value
+    ∙ ap (λ n. in_cell n c.args.self.now.celled.items) c.cell-cell.ensures

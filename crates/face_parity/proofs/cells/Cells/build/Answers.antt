@@ -23,5 +23,6 @@ returns c =
       floors = c.in_ok-floors.ensures;
       runs = c.in_ok-runs.ensures;
       wide = subst (λ rs. AreWideTo rs limits (length rs) c.in_ok-wide.wide.items) c.deref-4.ensures.value c.in_ok-wide.ensures;
-      celled = celled-reordered runs limits width height celled c.sort_unstable_by_key.new.self.items c.sort_unstable_by_key.ensures.permutation are;
+      celled = celled-reordered runs limits width height celled c.sort_unstable_by_key.new.self.items
+          c.sort_unstable_by_key.ensures.permutation are;
     }

@@ -16,11 +16,16 @@ returns-clause-line c =
     let t = c.sort.new.self in
     let here : get_or m.points c.args.k nowhere ≡ p = get_or_from_slice_get m.points c.args.k p nowhere c.point-p.ensures in
     let empty : c.clear-2.new.self.items ≡ [] = c.clear-2.ensures.items in
-    let point : c.write_point.new.text.items ≡ c.clear-2.new.self.items ++ codes "point " ++ decimal c.args.k ++ codes " " ++ signed_decimal p.x ++ codes " " ++ signed_decimal p.y ++ codes " in" = c.write_point.ensures.value in
-    let count : length t.odd.items ≡ length m.polygons = ap length c.sort.ensures.odd ∙ c.turn_crossed.ensures.polygons ∙ c.clear.ensures.count ∙ c.requires.scratch.polygons in
+    let point : c.write_point.new.text.items ≡ c.clear-2.new.self.items ++ codes "point " ++ decimal c.args.k ++ codes " "
+    ++ signed_decimal p.x ++ codes " " ++ signed_decimal p.y ++ codes " in" = c.write_point.ensures.value in
+    let count : length t.odd.items ≡ length m.polygons = ap length c.sort.ensures.odd ∙ c.turn_crossed.ensures.polygons
+    ∙ c.clear.ensures.count ∙ c.requires.scratch.polygons in
     let at = c.of-at.result in
     let floors = c.args.self.now.cells.floors in
-    let odd : filter (is_face t floors at.y) t.turned.items ≡ faces_of m p = odd-faces m floors p at t c.requires.scratch.cells.floors c.of-at.ensures c.sort.ensures.tally c.sort.ensures.rising count (λ k low floor. ap (λ odd. get_or odd k false) c.sort.ensures.odd ∙ c.turn_crossed.ensures.odd k low floor) in
-    let faces : c.write_faces.new.text.items ≡ c.write_point.new.text.items ++ numbers_text (faces_of m p) = c.write_faces.ensures.value ∙ ap (λ ns. c.write_point.new.text.items ++ numbers_text ns) odd in
+    let odd : filter (is_face t floors at.y) t.turned.items ≡ faces_of m p =
+    odd-faces m floors p at t c.requires.scratch.cells.floors c.of-at.ensures c.sort.ensures.tally c.sort.ensures.rising count
+    (λ k low floor. ap (λ odd. get_or odd k false) c.sort.ensures.odd ∙ c.turn_crossed.ensures.odd k low floor) in
+    let faces : c.write_faces.new.text.items ≡ c.write_point.new.text.items ++ numbers_text (faces_of m p) = c.write_faces.ensures.value
+    ∙ ap (λ ns. c.write_point.new.text.items ++ numbers_text ns) odd in
     let last : c.put.new.text.items ≡ c.write_faces.new.text.items ++ codes "\n" = c.put.ensures.value in
     rw (last, faces, point, empty, here) refl

@@ -10,7 +10,8 @@ returns-then-not-reaches c =
     let r = c.args.self.now in
     let run = c.requires.run in
     let none : c.reaches.result ≡ false = search rules in
-    sym (unreached-is-even c.args.p c.args.at c.requires.at (run_part (arc_at c.args.topology.now r.arc) r) r.bounds run.round (sym c.reaches.ensures ∙ none))
+    sym (unreached-is-even c.args.p c.args.at c.requires.at (run_part (arc_at c.args.topology.now r.arc) r) r.bounds run.round
+    (sym c.reaches.ensures ∙ none))
 
 pub returns-then-at-self : goal.returns-then-at-self
 returns-then-at-self c =
@@ -18,4 +19,5 @@ returns-then-at-self c =
     let run = c.requires.run in
     let below : c.args.at.y < r.bounds.south = c.if-at-self.true in
     let ps = arc_at c.args.topology.now r.arc in
-    c.part.ensures ∙ sym (above-box c.args.p c.args.at c.requires.at (run_part ps r) r.bounds r.ends (part-some ps r.from r.to run.edge run.within) run.round below run.ends)
+    c.part.ensures ∙ sym (above-box c.args.p c.args.at c.requires.at (run_part ps r) r.bounds r.ends
+    (part-some ps r.from r.to run.edge run.within) run.round below run.ends)

@@ -8,7 +8,8 @@ use Rattle.grid_exact.proofs.weights.Weights.first_off.Goals as goal
 pub loop-k-preserved : goal.loop-k-preserved
 loop-k-preserved c =
     let here : StaysOnGrid c.args.self c.index-list-k.result = c.apply.ensures.on_grid.0 (search rules) in
-    All-more (StaysOnGrid c.args.self) c.args.list.now c.loop-k.k c.index-list-k.result c.loop-k-test.true c.loop-k.invariant (rw (← c.index-list-k.is) here)
+    All-more (StaysOnGrid c.args.self) c.args.list.now c.loop-k.k c.index-list-k.result c.loop-k-test.true c.loop-k.invariant
+    (rw (← c.index-list-k.is) here)
 
 pub returns : goal.returns
 returns c =

@@ -12,7 +12,8 @@ loop-word-preserved c = record {
   fits = grind arith;
   word = let P : ℕ → Type 0 = λ w. IsWordFrom c.args.self.now c.args.i c.args.from (c.loop-word.at + 1) w in
       subst P (sym c.word-word.ensures) (whole_word c.args.self.now c.args.i c.args.from (c.loop-word.at + 1) (omega arith));
-  passed = word_more c.args.self.now c.args.i c.args.from c.loop-word.at c.loop-word.word c.loop-word-test.true c.loop-word.invariant.word c.loop-word.invariant.passed;
+  passed = word_more c.args.self.now c.args.i c.args.from c.loop-word.at c.loop-word.word c.loop-word-test.true c.loop-word.invariant.word
+      c.loop-word.invariant.passed;
 }
 
 pub returns : goal.returns
@@ -22,4 +23,5 @@ returns c =
       | else-loop-word-test w ↦ absurd (w.loop-word-test.false none)
     ] in
     let P : ℕ → Type 0 = λ n. IsNextBit c.args.self.now c.args.i c.args.from c.args.end n in
-    subst P (sym c.min.ensures) (next_found c.args.self.now c.args.i c.args.from c.args.end c.loop-word.at c.loop-word.word c.requires.order c.loop-word.invariant.fits last c.loop-word.invariant.word c.loop-word.invariant.passed)
+    subst P (sym c.min.ensures) (next_found c.args.self.now c.args.i c.args.from c.args.end c.loop-word.at c.loop-word.word c.requires.order
+    c.loop-word.invariant.fits last c.loop-word.invariant.word c.loop-word.invariant.passed)

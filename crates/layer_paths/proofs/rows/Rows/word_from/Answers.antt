@@ -8,4 +8,5 @@ pub returns-clause-before : goal.returns-clause-before
 returns-clause-before c = λ n early. mask_before c.word.result (c.args.from % 64) n (omega arith) early
 
 pub returns-clause-behind : goal.returns-clause-behind
-returns-clause-behind c = λ n late small. mask_behind c.word.result (c.args.from % 64) n (omega arith) late small ∙ ap (λ (w : ℕ). bit_at w n) c.word.ensures
+returns-clause-behind c = λ n late small. mask_behind c.word.result (c.args.from % 64) n (omega arith) late small
+    ∙ ap (λ (w : ℕ). bit_at w n) c.word.ensures

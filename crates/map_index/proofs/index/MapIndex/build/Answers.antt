@@ -19,7 +19,8 @@ returns-clause-index c =
       firsts = c.in_ok-items.ensures.firsts;
       firsts_count = c.in_ok-items.ensures.firsts_count;
       refs_count = c.in_ok-items.ensures.refs_count;
-      numbered = subst (λ (xs : List Item). IsPermutation (enumerate_from 0 xs) index.numbered) c.deref.ensures.value c.in_ok-index.ensures.numbered;
+      numbered = subst (λ (xs : List Item). IsPermutation (enumerate_from 0 xs) index.numbered) c.deref.ensures.value
+          c.in_ok-index.ensures.numbered;
       live = c.in_ok-index.ensures.live ∙ ap (λ (xs : List Item). replicate (length xs) true) c.deref.ensures.value;
       read = c.requires;
       edges = c.in_ok-items.ensures.edges;
@@ -29,5 +30,7 @@ pub returns-clause-count : goal.returns-clause-count
 returns-clause-count c =
     let index = c.in_ok-index.index in
     let items = c.in_ok-items.items.items in
-    let numbered = subst (λ (xs : List Item). IsPermutation (enumerate_from 0 xs) index.numbered) c.deref.ensures.value c.in_ok-index.ensures.numbered in
-    length_permutation (enumerate_from 0 items) index.numbered numbered ∙ length-enumerate_from 0 items ∙ ap length c.in_ok-items.ensures.items
+    let numbered = subst (λ (xs : List Item). IsPermutation (enumerate_from 0 xs) index.numbered) c.deref.ensures.value
+    c.in_ok-index.ensures.numbered in
+    length_permutation (enumerate_from 0 items) index.numbered numbered ∙ length-enumerate_from 0 items
+    ∙ ap length c.in_ok-items.ensures.items

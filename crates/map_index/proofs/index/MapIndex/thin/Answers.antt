@@ -21,6 +21,8 @@ returns-clause-index c =
     let inside : k < length v.firsts = omega (arith, c.requires.chain, index.chains.count, index.numbers.firsts_count) in
     let first = get_or_read v.firsts k c.index-first.result.now inside c.index-first.ensures 0 in
     let from_first = subst (λ n. AreDropped kept n (length c.chain.result.now) v.items.live live) first c.drop_others.ensures.live in
-    let drops = subst (λ (ps : List Place). AreDropped kept (get_or v.firsts k 0) (length ps) v.items.live live) c.chain.ensures.places from_first in
+    let drops = subst (λ (ps : List Place). AreDropped kept (get_or v.firsts k 0) (length ps) v.items.live live) c.chain.ensures.places
+    from_first in
     let after = index_after w k kept v live index step c.drop_others.ensures.live_count drops in
-    subst (λ (numbered : List (ℕ × Item)). IsIndexAt (thinned_work w k kept) (record { items = record { numbered = numbered; live = live }; firsts = v.firsts })) (sym c.drop_others.ensures.numbered) after
+    subst (λ (numbered : List (ℕ × Item)). IsIndexAt (thinned_work w k kept)
+    (record { items = record { numbered = numbered; live = live }; firsts = v.firsts })) (sym c.drop_others.ensures.numbered) after

@@ -13,7 +13,8 @@ pub invariant_of-result : goal.invariant_of-result
 invariant_of-result c =
     let index = c.in_ok-index.index in
     let is = c.in_ok-work.ensures in
-    let listed = subst (λ (w : Work). length index.items.numbered ≡ length (items_of w.read.points w.chains)) is c.in_ok-index.ensures.count in
+    let listed = subst (λ (w : Work). length index.items.numbered ≡ length (items_of w.read.points w.chains)) is c.in_ok-index.ensures.count
+    in
     record {
       at_work = c.in_ok-index.ensures.index;
       count = subst (λ (w : Work). length index.items.numbered ≡ items_in w) (sym is) listed;

@@ -14,4 +14,5 @@ returns c =
     let r = c.chain_ref.result in
     let below = subst (λ (v : Work). c.args.k < length v.chains) (sym c.self.view_is) c.requires in
     subst (λ (v : Work). c.chain_ref.result.frame ≡ (chain_at v.chains c.args.k).frame) c.self.view_is
-    (ap (λ (x : ChainRef). x.frame) (sym (get_or_from_slice_get w.refs k r no_ref c.chain_ref.ensures)) ∙ sym (c.self.invariant.at_work.chains.frames k below))
+    (ap (λ (x : ChainRef). x.frame) (sym (get_or_from_slice_get w.refs k r no_ref c.chain_ref.ensures))
+    ∙ sym (c.self.invariant.at_work.chains.frames k below))

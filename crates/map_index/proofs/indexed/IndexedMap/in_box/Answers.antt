@@ -9,4 +9,5 @@ use Rattle.map_index.proofs.indexed.IndexedMap.in_box.Goals as goal
 pub returns : goal.returns
 returns c =
     subst (λ (w : Work). AreItemsIn w c.args.low c.args.high (items_left c.in_box.result)) c.self.view_is
-    (items_in_box c.self.inside.work c.self.inside.index c.args.low c.args.high (items_left c.in_box.result) c.self.invariant.at_work c.self.invariant.count c.in_box.ensures)
+    (items_in_box c.self.inside.work c.self.inside.index c.args.low c.args.high (items_left c.in_box.result) c.self.invariant.at_work
+    c.self.invariant.count c.in_box.ensures)

@@ -7,7 +7,8 @@ use Rattle.shortcut_graph.proofs.corridor.Corridor.narrowed.Goals as goal
 pub returns-clause-near : goal.returns-clause-near
 returns-clause-near c v keeps =
     let a = c.max.ensures.self_bound in let b = c.max.ensures.other_bound in
-    both_keep c.args.self c.args.other _ c.requires.origin refl c.requires.passable c.requires.other_passable c.requires.past c.lower_of-ceiling.ensures c.upper_of-floor.ensures (omega (arith, fits)) (omega (arith, fits)) v keeps
+    both_keep c.args.self c.args.other _ c.requires.origin refl c.requires.passable c.requires.other_passable c.requires.past
+    c.lower_of-ceiling.ensures c.upper_of-floor.ensures (omega (arith, fits)) (omega (arith, fits)) v keeps
 
 pub returns-clause-past : goal.returns-clause-past
 returns-clause-past c =

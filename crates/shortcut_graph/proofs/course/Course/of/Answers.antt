@@ -29,6 +29,9 @@ returns c =
     let test : IsTrue rising ↔ IsBeforeIn frame (place_at r.xs.now r.ys.now 0) (place_at r.xs.now r.ys.now last) =
     subst (λ (p : Place). IsTrue rising ↔ IsBeforeIn frame p (place_at r.xs.now r.ys.now last)) c.point_at-first.ensures
     (subst (λ (p : Place). IsTrue rising ↔ IsBeforeIn frame c.point_at-first.result p) at_last c.comes_before.ensures) in
-    weighted_runs r.weights.x r.weights.y frame rising chain.first.place (places chain.rest) nowhere (place_at r.xs.now r.ys.now) (length r.xs.now) wide high
-    (subst (λ (f : Frame). IsMonotone f chain.first.place (places chain.rest)) (sym known) (c.chain.ensures.chains.monotone c.args.k)) weighed.count
-    (λ k within. same_place _ _ (weighed.across k (omega (arith, within, weighed.count))) (weighed.up k (omega (arith, within, weighed.count)))) test
+    weighted_runs r.weights.x r.weights.y frame rising chain.first.place (places chain.rest) nowhere (place_at r.xs.now r.ys.now)
+    (length r.xs.now) wide high
+    (subst (λ (f : Frame). IsMonotone f chain.first.place (places chain.rest)) (sym known) (c.chain.ensures.chains.monotone c.args.k))
+    weighed.count
+    (λ k within. same_place _ _ (weighed.across k (omega (arith, within, weighed.count)))
+    (weighed.up k (omega (arith, within, weighed.count)))) test

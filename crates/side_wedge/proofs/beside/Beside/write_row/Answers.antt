@@ -10,7 +10,8 @@ use Rattle.side_wedge.proofs.beside.Beside.write_row.Goals as goal
 pub narrow-requires-clause-past : goal.narrow-requires-clause-past
 narrow-requires-clause-past c hand p stands =
     let edge = c.loop-edge.edge in
-    past_of c.loop-edge.wedge c.args.frame c.args.rising (vertex_at c.args.chain.now c.args.i) p c.loop-edge.invariant.origin (c.requires.past edge hand p c.loop-edge.invariant.reached (omega (arith, c.loop-edge-test.true)) stands)
+    past_of c.loop-edge.wedge c.args.frame c.args.rising (vertex_at c.args.chain.now c.args.i) p c.loop-edge.invariant.origin
+    (c.requires.past edge hand p c.loop-edge.invariant.reached (omega (arith, c.loop-edge-test.true)) stands)
 
 pub admits-requires : goal.admits-requires
 admits-requires c =
@@ -20,8 +21,11 @@ admits-requires c =
     let low = c.loop-edge.invariant.reached in
     let within : edge + 1 < length chain = omega (arith, c.loop-edge-test.true) in
     let v : c.index-chain-edge.result ≡ vertex_at chain (edge + 1) = get_or_read chain (edge + 1) _ within c.index-chain-edge.is _ in
-    let now = starts_still c.loop-edge.wedge c.narrow.new.wedge c.args.frame c.args.rising start c.loop-edge.invariant.origin c.narrow.ensures.origin in
-    past_of c.narrow.new.wedge c.args.frame c.args.rising start c.index-chain-edge.result now (subst (λ (x : Place). IsAlong c.args.frame c.args.rising start x) (sym v) (c.requires.runs c.args.i (edge + 1) (omega arith) within))
+    let now = starts_still c.loop-edge.wedge c.narrow.new.wedge c.args.frame c.args.rising start c.loop-edge.invariant.origin
+    c.narrow.ensures.origin in
+    past_of c.narrow.new.wedge c.args.frame c.args.rising start c.index-chain-edge.result now
+    (subst (λ (x : Place). IsAlong c.args.frame c.args.rising start x) (sym v)
+    (c.requires.runs c.args.i (edge + 1) (omega arith) within))
 
 pub loop-edge-preserved : goal.loop-edge-preserved
 loop-edge-preserved c =
@@ -35,7 +39,8 @@ loop-edge-preserved c =
     let within : edge + 1 < length chain = omega (arith, c.loop-edge-test.true) in
     let v : c.index-chain-edge.result ≡ vertex_at chain (edge + 1) = get_or_read chain (edge + 1) _ within c.index-chain-edge.is _ in
     let now = starts_still c.loop-edge.wedge c.narrow.new.wedge frame rising start h.origin c.narrow.ensures.origin in
-    let lets = lets_more b frame rising start i edge c.loop-edge.wedge c.narrow.new.wedge h.reached h.origin now h.lets c.narrow.ensures.lets in
+    let lets = lets_more b frame rising start i edge c.loop-edge.wedge c.narrow.new.wedge h.reached h.origin now h.lets
+    c.narrow.ensures.lets in
     let let_here = lets (vertex_at chain (edge + 1)) (c.requires.runs i (edge + 1) (omega arith) within) in
     let test = subst (λ (x : Place). IsTrue c.admits.result ↔ Lets c.narrow.new.wedge x) v c.admits.ensures in
     let count = h.count in let size = c.requires.row in
@@ -43,8 +48,13 @@ loop-edge-preserved c =
       reached = omega arith;
       origin = now;
       lets = lets;
-      told = told_more b chain i edge c.loop-edge.row c.admits.result (omega (arith, within, count, size)) h.told (λ t. let_here.0 (test.0 t), λ k. test.1 (let_here.1 k));
-      before = λ j early. get_or-set_other c.loop-edge.row (edge + 1) j c.admits.result false (λ e. absurd (omega arith)) ∙ h.before j early;
+      told = told_more b chain i edge c.loop-edge.row c.admits.result (omega (arith, within, count, size)) h.told (
+        λ t.
+            let_here.0 (test.0 t),
+        λ k. test.1 (let_here.1 k),
+      );
+      before = λ j early. get_or-set_other c.loop-edge.row (edge + 1) j c.admits.result false (λ e. absurd (omega arith))
+          ∙ h.before j early;
       count = search rules;
     }
 
@@ -62,9 +72,12 @@ returns-then-is_closed-clause-told c j low high =
     let start = vertex_at chain i in
     let h = c.loop-edge.invariant in
     let now = starts_still c.loop-edge.wedge c.narrow.new.wedge frame rising start h.origin c.narrow.ensures.origin in
-    let lets = lets_more b frame rising start i edge c.loop-edge.wedge c.narrow.new.wedge h.reached h.origin now h.lets c.narrow.ensures.lets in
+    let lets = lets_more b frame rising start i edge c.loop-edge.wedge c.narrow.new.wedge h.reached h.origin now h.lets
+    c.narrow.ensures.lets in
     let within : j < length chain = omega (arith, high, c.clear_from.ensures.length, h.count, c.requires.row) in
-    told_closed b frame rising chain i edge j c.narrow.new.wedge c.loop-edge.row c.clear_from.new.row c.requires.runs now lets (c.is_closed.ensures c.if-is_closed.true) h.told c.clear_from.ensures.before c.clear_from.ensures.clear low within high
+    told_closed b frame rising chain i edge j c.narrow.new.wedge c.loop-edge.row c.clear_from.new.row c.requires.runs now lets
+    (c.is_closed.ensures c.if-is_closed.true) h.told c.clear_from.ensures.before c.clear_from.ensures.clear low within high
 
 pub returns-then-is_closed-clause-before : goal.returns-then-is_closed-clause-before
-returns-then-is_closed-clause-before c j early = c.clear_from.ensures.before j (omega (arith, early, c.loop-edge.invariant.reached)) ∙ c.loop-edge.invariant.before j early
+returns-then-is_closed-clause-before c j early = c.clear_from.ensures.before j (omega (arith, early, c.loop-edge.invariant.reached))
+    ∙ c.loop-edge.invariant.before j early

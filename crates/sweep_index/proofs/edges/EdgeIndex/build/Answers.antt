@@ -16,7 +16,8 @@ returns c =
     let m = c.args.map.now in
     let height = c.height_for-height.result in
     let things = c.sort_unstable_by_key.new.self.items in
-    let are = things_reordered m height c.in_ok-things.things.items things c.sort_unstable_by_key.ensures.permutation c.in_ok-things.ensures in
+    let are = things_reordered m height c.in_ok-things.things.items things c.sort_unstable_by_key.ensures.permutation c.in_ok-things.ensures
+    in
     record {
       pairs = pairs_are m height things c.height_for-height.ensures are;
       towns = towns_are m height things c.height_for-height.ensures are;

@@ -23,7 +23,8 @@ returns c =
     let slabs = c.args.self.now in
     let told = subst (λ (z : ℤ). IsTrue c.is_on_grid.result ↔ IsGridNumber z) (to_z-of_z w64 c.args.x c.ranges.x) c.is_on_grid.ensures in
     let x : c.offset-x.result ≡ offset_of c.args.x = c.offset-x.ensures.value ∙ ap offset_of (to_z-of_z w64 c.args.x c.ranges.x) in
-    let here = ap (edges_at c.offset-x.result) (c.in_slab.ensures ∙ ap (slab_of (c.offset-x.result / slabs.width)) c.as_slice.ensures.value) ∙ ap (λ n. edges_at n (slab_of (n / slabs.width) slabs.edges.items)) x in
+    let here = ap (edges_at c.offset-x.result) (c.in_slab.ensures ∙ ap (slab_of (c.offset-x.result / slabs.width)) c.as_slice.ensures.value)
+    ∙ ap (λ n. edges_at n (slab_of (n / slabs.width) slabs.edges.items)) x in
     record {
       value = λ on. here;
       edges = λ m are. subst (AreEdgesAt m c.args.x) (sym here) (are.given c.args.x (told.0 c.if-not-is_on_grid.false));

@@ -24,7 +24,8 @@ returns c =
     let edges = c.sort_unstable_by_key.new.self.items in
     let wide = c.slab_width-width.ensures in
     let all : c.loop-arc.arc ≡ length m.arcs = omega arith in
-    let before = all_edges m width c.loop-arc.edges.items (subst (λ k. AreEdgesBefore m width k 0 c.loop-arc.edges.items) all c.loop-arc.invariant) in
+    let before = all_edges m width c.loop-arc.edges.items (subst (λ k. AreEdgesBefore m width k 0 c.loop-arc.edges.items) all
+    c.loop-arc.invariant) in
     let are = edges_reordered m width c.loop-arc.edges.items edges c.sort_unstable_by_key.ensures.permutation before in
     record {
       on_grid = ends_on_grid m width edges wide are;

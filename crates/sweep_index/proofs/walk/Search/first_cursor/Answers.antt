@@ -9,5 +9,6 @@ pub returns-clause-start : goal.returns-clause-start
 returns-clause-start c =
     let s = c.args.self.now in
     let first : c.row-row.result ≡ row_of s.grid s.area.south = search rules in
-    let ahead = subst (IsAhead s.grid s.entries.now s.live.now (lowest s.area) (highest s.area) c.places_in-at.result.0) first c.places_in-at.ensures.ahead in
+    let ahead = subst (IsAhead s.grid s.entries.now s.live.now (lowest s.area) (highest s.area) c.places_in-at.result.0) first
+    c.places_in-at.ensures.ahead in
     from_first s.grid s.entries.now s.live.now (lowest s.area) (highest s.area) c.places_in-at.result.0 ahead c.places_in-at.ensures.begin

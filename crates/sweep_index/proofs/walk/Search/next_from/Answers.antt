@@ -12,7 +12,8 @@ returns-in-Some-clause-steps c =
     let found = c.in-Some.ensures.found in
     let valid = c.loop-k.invariant.valid in
     next_found es s.live.now (lowest s.area) (highest s.area) c.args.cursor.at c.loop-k.at k (get_or es k c.index-self-k.result)
-    c.loop-k.invariant.onward found.0 (omega (arith, valid.within, found.1)) (ap (get_or es k) c.index-self-k.is) found.2 c.loop-k.invariant.none c.in-Some.ensures.none_before
+    c.loop-k.invariant.onward found.0 (omega (arith, valid.within, found.1)) (ap (get_or es k) c.index-self-k.is) found.2
+    c.loop-k.invariant.none c.in-Some.ensures.none_before
 
 pub returns-then-row-last_row-clause-none : goal.returns-then-row-last_row-clause-none
 returns-then-row-last_row-clause-none c =
@@ -27,9 +28,16 @@ loop-k-preserved c =
     let begin = c.places_in-begin.result.0 in
     let greater : c.max-at.result ≡ max c.loop-k.at begin = search rules in
     record {
-      valid = record { in_grid = omega (arith, c.if-row-last_row.false, c.row-last_row.ensures.within); within = c.places_in-begin.ensures.end; passed = c.places_in-begin.ensures.passed };
+      valid = record {
+        in_grid = omega (arith, c.if-row-last_row.false, c.row-last_row.ensures.within);
+        within =
+            c.places_in-begin.ensures.end;
+        passed = c.places_in-begin.ensures.passed;
+      };
       onward = omega (arith, greater, c.loop-k.invariant.onward);
       none = subst (NoneFound s.entries.now s.live.now (lowest s.area) (highest s.area) c.args.cursor.at) (sym greater)
-          (onward s.grid s.entries.now s.live.now (lowest s.area) (highest s.area) c.loop-k.row c.args.cursor.at c.loop-k.at c.loop-k.end begin
-          c.loop-k.invariant.valid c.loop-k.invariant.none c.in_default.ensures.none c.places_in-begin.ensures.ahead c.places_in-begin.ensures.begin);
+          (onward s.grid s.entries.now s.live.now (lowest s.area) (highest s.area) c.loop-k.row c.args.cursor.at c.loop-k.at c.loop-k.end
+          begin
+          c.loop-k.invariant.valid c.loop-k.invariant.none c.in_default.ensures.none c.places_in-begin.ensures.ahead
+          c.places_in-begin.ensures.begin);
     }

@@ -7,7 +7,8 @@ abbrev pub invariant-loop-k : goal.invariant-loop-k
 invariant-loop-k l = record {
   valid : IsCursor l.self.grid l.self.entries.now l.self.live.now (lowest l.self.area) (highest l.self.area) l.row l.end;
   onward : l.fn.cursor.at ≤ l.at;
-  none : (k : ℕ) → l.fn.cursor.at ≤ k → k < l.at → ¬ (IsFoundAt l.self.entries.now l.self.live.now (lowest l.self.area) (highest l.self.area) k);
+  none : (k : ℕ) → l.fn.cursor.at ≤ k → k < l.at
+      → ¬ (IsFoundAt l.self.entries.now l.self.live.now (lowest l.self.area) (highest l.self.area) k);
 }
 
 abbrev pub decreases-loop-k : goal.decreases-loop-k
