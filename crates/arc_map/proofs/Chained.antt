@@ -13,7 +13,7 @@ use Rattle.grid_exact.specs.Runs.IsMonotone.{Increasing}
 use Rattle.arc_map.specs.Map.{Map}
 use Rattle.arc_map.specs.Vertices.{Vertex, places}
 use Rattle.arc_map.specs.Clear.{IsWithinChain, EachButLast}
-use Rattle.arc_map.specs.Chains.{Chain, no_chain, chain_at, IsOtherEdge, AreChains}
+use Rattle.arc_map.specs.Chains.{Chain, no_chain, chain_at, chain_places, IsOtherEdge, AreChains}
 use Rattle.arc_map.specs.Arranged.{arc_at, is_arc_end}
 use Rattle.arc_map.specs.Work.{vertex_in}
 use Rattle.arc_map.specs.Live.{live_chain, work_in, IsLive, AreInOrder, AreLive, SpansChain}
@@ -22,6 +22,20 @@ use Rattle.arc_map.specs.declared.work.LiveChain.{LiveChain}
 use Rattle.arc_map.specs.declared.work.WorkMap.TheInside.{Inside}
 use Rattle.arc_map.proofs.Rising.{rising_order}
 use Rattle.arc_map.proofs.Thinning.{length_rest}
+
+-- ---- any list of chains
+
+-- a chain past the list has no edge
+pub chain_is_known : (chains : List Chain) (l : ℕ) (c d : Vertex)
+    → IsEdgeOf (chain_at chains l).first (chain_at chains l).rest c d → l < length chains
+chain_is_known chains l c d edge =
+    elim (cases_lt l (length chains)) [
+      | inl less ↦ less
+      | inr past ↦ absurd (subst (λ (x : Chain). IsEdgeOf x.first x.rest c d) (get_or_past chains l no_chain past) edge)
+    ]
+
+pub length-chain_places : (c : Chain) → length (chain_places c) ≡ length c.rest + 1
+length-chain_places c = omega (arith, length-map c.rest (λ v. v.place))
 
 -- ---- one chain
 

@@ -106,7 +106,7 @@ count_of_walk v ws (k ∷ ks) cut =
     let edge = cut.5 in
     omega arith
 
-length-vertices_from : (arc at : ℕ) (ps : List Place) → length (vertices_from arc at ps) ≡ length ps
+pub length-vertices_from : (arc at : ℕ) (ps : List Place) → length (vertices_from arc at ps) ≡ length ps
 length-vertices_from arc at [] = refl
 length-vertices_from arc at (p ∷ []) = refl
 length-vertices_from arc at (p ∷ q ∷ ps) = ap suc (length-vertices_from arc (suc at) (q ∷ ps))

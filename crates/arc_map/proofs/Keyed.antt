@@ -46,7 +46,7 @@ filter_run p xs n m within inside front mid back =
 
 -- ---- the elements with one number
 
-other_key : (a b : ℕ) → (a ≡ b → ⊥) → (a == b) ≡ false
+pub other_key : (a b : ℕ) → (a ≡ b → ⊥) → (a == b) ≡ false
 other_key a b apart = false_from_ne_true (a == b) (λ same. apart (eqb-true a b same))
 
 -- behind the elements with lesser numbers the list is in order, those with this number first

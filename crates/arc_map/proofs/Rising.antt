@@ -1,6 +1,6 @@
 -- What a search finds in a strictly rising list.
 use Rattle.std.proofs.Common.{◌≡◌, ◌↔◌, ◌∙◌, ℕ, zero, suc, ◌+◌, ◌-◌, ◌<◌, ◌≤◌, IsTrue, List, length, get_or, Result, Ok, Err, is_ok}
-use Rattle.std.proofs.Common.{MatchResult, Contains, refl, inl, inr, arith}
+use Rattle.std.proofs.Common.{MatchResult, Contains, refl, inl, inr, arith, [], ◌∷◌, sym, subst}
 use Rattle.std.specs.List.Sorted.{IsStrictlyIncreasing}
 use Rattle.std.proofs.lemmas.Bool.{cases_lt}
 use Rattle.std.proofs.lemmas.List.{get_or_default}
@@ -47,3 +47,52 @@ rising-length n xs rising below =
           omega (arith, last, below (length xs - 1) 0 (omega arith))
       | inr none ↦ omega arith
     ]
+
+-- ---- rising lists with the same elements
+
+pub rising_tail : (x : ℕ) (xs : List ℕ) → IsStrictlyIncreasing (x ∷ xs) → IsStrictlyIncreasing xs
+rising_tail x xs rising k below =
+    let next : suc k + 1 ≡ suc (k + 1) = omega arith in
+    let step = rising (suc k) (omega arith) in
+    rw next at step
+
+-- the first is the least
+pub first_is_least : (x : ℕ) (xs : List ℕ) (n : ℕ) → IsStrictlyIncreasing (x ∷ xs) → Contains (x ∷ xs) n → x ≤ n
+first_is_least x xs n rising has =
+    let order = rising_order (x ∷ xs) rising 0 has.0 (omega arith) has.1 in
+    let same = get_or_default (x ∷ xs) has.0 0 n has.1 ∙ has.2 in
+    omega (arith, order, same)
+
+pub later_is_greater : (x : ℕ) (xs : List ℕ) (n : ℕ) → IsStrictlyIncreasing (x ∷ xs) → Contains xs n → x < n
+later_is_greater x xs n rising has =
+    let inside = has.1 in
+    let order = AllPairs-from_increasing (x ∷ xs) rising 0 (suc has.0) n (omega arith) (omega arith) in
+    omega (arith, order, has.2)
+
+-- what stands behind the first of one list stands behind the first of the other
+pub behind_first : (x : ℕ) (xs ys : List ℕ) → IsStrictlyIncreasing (x ∷ xs) → ((n : ℕ) → Contains (x ∷ xs) n → Contains (x ∷ ys) n)
+    → (n : ℕ) → Contains xs n → Contains ys n
+behind_first x xs ys rising says n has =
+    let inside = has.1 in
+    let there = says n (suc has.0, omega arith, has.2) in
+    at_place there.0 there.1 there.2
+  where
+    at_place : (j : ℕ) → j < length (x ∷ ys) → get_or (x ∷ ys) j n ≡ n → Contains ys n
+    at_place zero within e = absurd (omega (arith, later_is_greater x xs n rising has, e))
+    at_place (suc j) within e = (j, omega arith, e)
+
+pub rising_is_one : (xs ys : List ℕ) → IsStrictlyIncreasing xs → IsStrictlyIncreasing ys → ((n : ℕ) → Contains xs n → Contains ys n)
+    → ((n : ℕ) → Contains ys n → Contains xs n) → xs ≡ ys
+rising_is_one [] [] first second there back = refl
+rising_is_one [] (y ∷ ys) first second there back = let has = back y (0, omega arith, refl) in absurd (omega (arith, has.1))
+rising_is_one (x ∷ xs) [] first second there back = let has = there x (0, omega arith, refl) in absurd (omega (arith, has.1))
+rising_is_one (x ∷ xs) (y ∷ ys) first second there back =
+    let below = first_is_least x xs y first (back y (0, omega arith, refl)) in
+    let above = first_is_least y ys x second (there x (0, omega arith, refl)) in
+    let same : x ≡ y = omega (arith, below, above) in
+    let there_too = subst (λ (z : ℕ). (n : ℕ) → Contains (x ∷ xs) n → Contains (z ∷ ys) n) (sym same) there in
+    let back_too = subst (λ (z : ℕ). (n : ℕ) → Contains (z ∷ ys) n → Contains (x ∷ xs) n) (sym same) back in
+    let second_too = subst (λ (z : ℕ). IsStrictlyIncreasing (z ∷ ys)) (sym same) second in
+    let rest = rising_is_one xs ys (rising_tail x xs first) (rising_tail y ys second) (behind_first x xs ys first there_too)
+    (behind_first x ys xs second_too back_too) in
+    cc

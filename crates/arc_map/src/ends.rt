@@ -4,9 +4,8 @@ ghost use Rattle.std.specs.Prelude.{position};
 ghost use Rattle.grid_exact.specs.Geometry.{Place};
 ghost use Rattle.arc_map.specs.Ends.{EndLists, IsEndTable, is_same, listed};
 
-use crate::refs::NoMemory;
 use crate::work::WorkMap;
-use grid_exact::Point;
+use grid_exact::{NoMemory, Point};
 use indexmap::IndexSet;
 use smallvec::SmallVec;
 use std::alloc::{AllocError, Global};
@@ -27,8 +26,7 @@ impl Model for EndTable {
 
     ghost view = { λ t. record {
       places = t.places.keys;
-      lists =
-          map (λ list. list.items) t.lists.items;
+      lists = map (λ list. list.items) t.lists.items;
     } };
 
     ghost invariant = { λ t. length t.lists.items ≡ length t.places.keys };
@@ -64,8 +62,9 @@ impl EndTable {
     // Puts the chain at the end of the list of the place.
     fn add(&mut self, alloc: Global, place: Point, chain: u32) -> Result<(), AllocError>
         ensures { OnOk result ((p : Place) → listed self.new.places self.new.lists p
-            ≡ (if is_same p place then listed self.old.places self.old.lists p ++ chain
-            ∷ [] else listed self.old.places self.old.lists p)) }
+            ≡ (if is_same p place
+            then listed self.old.places self.old.lists p ++ chain ∷ []
+            else listed self.old.places self.old.lists p)) }
     {
         let at = self.index_of(alloc, place)?;
         self.lists[at].push(chain)?;

@@ -2,7 +2,7 @@
 ghost use Rattle.std.specs.Prelude.{◌≡◌, ◌<◌, ◌≤◌, ◌^◌, [], length, IfOk, slice_get};
 ghost use Rattle.arc_map.specs.Records.{Record, Records, Fits, pushed};
 
-use crate::refs::NoMemory;
+use grid_exact::NoMemory;
 use std::alloc::Global;
 use std::marker::Model;
 
@@ -87,14 +87,12 @@ impl RunRecords {
           arc = arc;
           «from» = from;
           kept = kept.now;
-          layers =
-              layers.now;
+          layers = layers.now;
         }) }
         ensures { self.new ≡ pushed self.old (record {
           arc = arc;
           «from» = from;
-          kept =
-              kept.now;
+          kept = kept.now;
           layers = layers.now;
         }) }
     {

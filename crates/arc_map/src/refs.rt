@@ -1,16 +1,5 @@
-//! The names of edges and chains, and the want of memory.
+//! The names of edges and chains.
 use grid_exact::Frame;
-use std::alloc::AllocError;
-
-/// There is no memory.
-#[derive(Clone, Copy, Debug, PartialEq, Eq)]
-pub struct NoMemory;
-
-impl From<AllocError> for NoMemory {
-    fn from(_: AllocError) -> NoMemory {
-        NoMemory
-    }
-}
 
 /// An edge of a map: it joins the positions `at` and `at + 1` of arc number `arc`. Edges are
 /// ordered by arc, then by `at`.

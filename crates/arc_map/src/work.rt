@@ -12,8 +12,8 @@ ghost use Rattle.arc_map.specs.Work.{Work, work_of, LiesInArc, AreChainsIn, AreK
 ghost use Rattle.arc_map.specs.Work.{thinned_work};
 
 use crate::map::ArcMap;
-use crate::refs::{ChainRef, NoMemory};
-use grid_exact::Point;
+use crate::refs::ChainRef;
+use grid_exact::{NoMemory, Point};
 use std::alloc::{AllocError, Global};
 use std::marker::Model;
 
@@ -113,8 +113,7 @@ impl WorkMap {
     }
 
     /// Leaves just the vertices of chain number `k` at the places `kept` in the chain as it is now,
-    /// from
-    /// 0. They keep their numbers in the arc as read. All else stays.
+    /// from 0. They keep their numbers in the arc as read. All else stays.
     pub fn thin(&mut self, k: u32, kept: &[u32])
         requires chain { k < length self.old.chains }
         requires kept { AreKeptIn (chain_at self.old.chains k) kept.now }
@@ -172,8 +171,8 @@ fn rejoin(arc: &mut Vec<Point>, number: u32, chains: &[LiveChain], start: usize)
 // Writes the positions from place `end` on.
 fn write_at(arc: &mut Vec<Point>, end: usize, rest: &[Point])
     requires { end + length rest.now ≤ length arc.old.items }
-    ensures front { take (end + length rest.now) arc.new.items ≡ take end arc.old.items
-        ++ rest.now }
+    ensures front { take (end + length rest.now) arc.new.items
+        ≡ take end arc.old.items ++ rest.now }
     ensures count { length arc.new.items ≡ length arc.old.items }
 {
     arc[end..end + rest.len()].copy_from_slice(rest);

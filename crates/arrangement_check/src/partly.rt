@@ -74,6 +74,15 @@ impl Partly {
     {
         self.map
     }
+
+    /// The map itself, and the arcs that are held.
+    pub fn into_parts(self) -> (ArcMap, ArcList)
+        ensures map { result.0 ≡ self.map }
+        ensures held { result.1 ≡ self.held }
+        ensures arranged { IsMapArranged result.1 result.0 }
+    {
+        (self.map, self.held)
+    }
 }
 
 /// The map with its held arcs: those of which an edge clashes with some edge, or on which a feature

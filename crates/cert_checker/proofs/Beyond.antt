@@ -15,6 +15,7 @@ use Rattle.grid_exact.proofs.Orders.{lt_yes, lt_no, before_yes, before_no, compa
 use Rattle.grid_exact.proofs.Commons.{up_of}
 use Rattle.grid_exact.proofs.Crossings.{crossed_turned, crossed_between, crossed_after, crossed_before}
 use Rattle.grid_exact.proofs.Walks.{counted_alike}
+use Rattle.grid_exact.proofs.Areas.{area_parts}
 
 -- ---- on one axis
 
@@ -76,10 +77,6 @@ beyond_off ToTheLeft p a b h k on = not_before_both on.denominator on.numerator 
 beyond_off ToTheRight p a b h k on = not_past_both on.denominator on.numerator a.x b.x p.x on.whole on.from_start on.to_end on.across h k
 beyond_off Under p a b h k on = not_before_both on.denominator on.numerator a.y b.y p.y on.whole on.from_start on.to_end on.up h k
 beyond_off Over p a b h k on = not_past_both on.denominator on.numerator a.y b.y p.y on.whole on.from_start on.to_end on.up h k
-
-area_parts : (a b p : Place) → area_of a b p ≡ (b.x -ℤ p.x) *ℤ (p.y -ℤ a.y) +ℤ (p.x -ℤ a.x) *ℤ (p.y -ℤ b.y)
-area_parts a b p = identity_6 a.x a.y b.x b.y p.x p.y (λ ax ay bx by px py.
-    (bx ⊖ ax) ⊗ (py ⊖ ay) ⊖ (by ⊖ ay) ⊗ (px ⊖ ax) ≈ (bx ⊖ px) ⊗ (py ⊖ ay) ⊕ (px ⊖ ax) ⊗ (py ⊖ by)) refl
 
 across_or_same : (a b : Place) → IsBefore a b → a.x ≤ℤ b.x
 across_or_same a b (Left h) = omega (arith, sums)

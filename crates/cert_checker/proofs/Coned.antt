@@ -16,11 +16,11 @@ use Rattle.arc_map.specs.Arranged.{nowhere}
 use Rattle.arc_map.specs.Chains.{IsWithinBound, chain_at, chain_places}
 use Rattle.arc_map.specs.Vertices.{places}
 use Rattle.arc_map.specs.Work.{Work}
+use Rattle.arc_map.proofs.Chained.{length-chain_places}
 use Rattle.cert_checker.specs.Runs.{IsRunWithin, place_at}
 use Rattle.cert_checker.specs.Subject.{FallNowhere, IsSubjectOf, edge_count, pairs_of}
 use Rattle.cert_checker.proofs.Nearby.{near_by_weighted, run_near, weighted_at}
 use Rattle.cert_checker.proofs.Pairs.{allowed_by_parts}
-use Rattle.cert_checker.proofs.Parts.{places_count}
 
 -- a place that was read
 pub read_at : (ps : List Place) (n : ℕ) (p : Place) → n < length ps → p ≡ get_or ps n p → p ≡ place_at ps n
@@ -47,12 +47,12 @@ subject_runs w k ps weights rising first last subject wide high starts ends test
 
 pub subject_count : (w : Work) (k : ℕ) (ps : List Place) (weights : Scales) → IsSubjectOf w k ps weights → length ps ≡ edge_count w k + 1
 subject_count w k ps weights subject = ap length subject.weighed
-    ∙ length-map (chain_places (chain_at w.chains k)) (weighted weights.x weights.y) ∙ places_count (chain_at w.chains k)
+    ∙ length-map (chain_places (chain_at w.chains k)) (weighted weights.x weights.y) ∙ length-chain_places (chain_at w.chains k)
 
 pub pair_near : (w : Work) (k : ℕ) (ps : List Place) (weights : Scales) (bound : ℤ) (i j : ℕ) → IsSubjectOf w k ps weights → i + 1 < j
     → j ≤ edge_count w k → pairs_of w k weights bound i j → IsRunWithin bound ps i j
 pair_near w k ps weights bound i j subject order within pair =
-    let inside : j < length (chain_places (chain_at w.chains k)) = omega (arith, within, places_count (chain_at w.chains k)) in
+    let inside : j < length (chain_places (chain_at w.chains k)) = omega (arith, within, length-chain_places (chain_at w.chains k)) in
     let both = allowed_by_parts (IsWithinBound weights.x weights.y bound) w.chains w.read.points k i j order within in
     (near_by_weighted weights.x weights.y bound (chain_places (chain_at w.chains k)) ps i j subject.weighed (omega arith) inside).1
     (both.1 pair).0

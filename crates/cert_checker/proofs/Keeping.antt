@@ -14,14 +14,13 @@ use Rattle.arc_map.specs.Records.{Record}
 use Rattle.arc_map.specs.Vertices.{Vertex}
 use Rattle.arc_map.specs.Work.{chain_in}
 use Rattle.arc_map.specs.declared.refs.ChainRef.{ChainRef}
-use Rattle.monotone_split.proofs.Maps.{chain_thinned}
+use Rattle.monotone_split.proofs.Maps.{chain_thinned, chain_same}
 use Rattle.monotone_split.proofs.Numbers.{path_in}
 use Rattle.cert_checker.specs.Judged.{AllowedIn, AreJudged, Demand, IsAccepted, free_numbers, is_free, replaced}
 use Rattle.cert_checker.specs.Laws.{IsThinnedNearby, SkipNearby, YesKeepsChains}
 use Rattle.cert_checker.specs.declared.verdicts.Verdict.TheVariants.{Yes}
 use Rattle.cert_checker.proofs.Accepting.{leads_from, path_from}
 use Rattle.cert_checker.proofs.Sound.{IsFreeNumber, free_from, free_thinned}
-use Rattle.cert_checker.proofs.Thinned.{other_thinned}
 
 -- ---- paths that skip vertices nearby
 
@@ -76,7 +75,7 @@ below_stay d points chains (l ∷ ls) e (r ∷ rs) after n k rise below (inl fau
 below_stay d points chains (l ∷ ls) e (r ∷ rs) after n k rise below (inr judged) =
     let other : k ≡ l → ⊥ = omega (arith, rise.0, below) in
     below_stay d points (replaced chains l r) ls (e + 1) rs after (l + 1) k rise.1 (omega (arith, rise.0, below)) judged.1
-    ∙ other_thinned chains l k (vertices_at (chain_at chains l) (drop 1 r.kept)) other
+    ∙ chain_same chains l k (vertices_at (chain_at chains l) (drop 1 r.kept)) other
 
 -- a chain that is replaced skips vertices nearby
 replaced_nearby : (d : Demand) (points : List Place) (chains : List Chain) (k : ℕ) (r : Record) → k < length chains
@@ -114,7 +113,7 @@ each_nearby d held points chains (l ∷ ls) e (r ∷ rs) after n k rise free (in
   | inr other ↦
       let Near = IsWithinBound d.weights.x d.weights.y d.bound in
       let kept = vertices_at (chain_at chains l) (drop 1 r.kept) in
-      subst (λ c. IsThinnedNearby Near c (chain_at after k)) (other_thinned chains l k kept other)
+      subst (λ c. IsThinnedNearby Near c (chain_at after k)) (chain_same chains l k kept other)
       (each_nearby d held points (replaced chains l r) ls (e + 1) rs after (l + 1) k rise.1 (free_thinned held chains l kept ls free.1)
       judged.1)
 ]
@@ -130,7 +129,7 @@ held_stay d held points chains (l ∷ ls) e (r ∷ rs) after k free (inr judged)
   | inl same ↦ absurd (free.0.free (subst (λ m. Contains held (chain_at chains m).first.arc) same has))
   | inr other ↦
       let kept = vertices_at (chain_at chains l) (drop 1 r.kept) in
-      let stays = other_thinned chains l k kept other in
+      let stays = chain_same chains l k kept other in
       held_stay d held points (replaced chains l r) ls (e + 1) rs after k (free_thinned held chains l kept ls free.1) judged.1
       (subst (λ (c : Chain). Contains held c.first.arc) (sym stays) has)
       ∙ stays

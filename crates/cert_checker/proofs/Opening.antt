@@ -21,6 +21,7 @@ use Rattle.arc_map.specs.Chains.{AreChains, Chain, IsClearIn, chain_at, chain_pl
 use Rattle.arc_map.specs.Paths.{vertex_at}
 use Rattle.arc_map.specs.Vertices.{Vertex}
 use Rattle.arc_map.specs.Work.{Work}
+use Rattle.arc_map.proofs.Chained.{length-chain_places}
 use Rattle.map_index.specs.IndexedMap.{AreItemsIn}
 use Rattle.map_index.specs.Items.{IsOther, Owns}
 use Rattle.map_index.specs.Listing.{item_of}
@@ -36,7 +37,7 @@ use Rattle.cert_checker.specs.Open.{IsOpenPair, Joins}
 use Rattle.cert_checker.specs.Runs.{IsInBox, place_at, run_end, run_inner}
 use Rattle.cert_checker.proofs.Beyond.{IsOn, Over, Side, ToTheLeft, ToTheRight, Under, beyond_even, beyond_off}
 use Rattle.cert_checker.proofs.Pairs.{edge_by_number, joined_edge}
-use Rattle.cert_checker.proofs.Parts.{RunParts, place_of_vertex, places_count, split_last}
+use Rattle.cert_checker.proofs.Parts.{RunParts, place_of_vertex, split_last}
 
 -- ---- outside the box
 
@@ -155,7 +156,7 @@ double_from chains k l v w c d known other whole edge ends joins =
         | inl e ↦ inl (ap (λ (x : Vertex). x.place) first ∙ sym e.0)
         | inr e ↦ inr (ap (λ ws. (end_of one.first ws).place) whole ∙ sym e.0)
       ];
-      edge = record { other = other; whole = omega (arith, places_count one, ap length whole); joins = joins };
+      edge = record { other = other; whole = omega (arith, length-chain_places one, ap length whole); joins = joins };
     }
 
 joins_is_double : (chains : List Chain) (points : List Place) (k i j l : ℕ) → AreChains chains → IsClearIn chains points k → i < j
@@ -236,7 +237,7 @@ pub double_not_open : (chains : List Chain) (points : List Place) (k i j : ℕ)
     → IsDouble chains k (place_at (chain_places (chain_at chains k)) i) (place_at (chain_places (chain_at chains k)) j)
     → IsOpenPair chains points k i j → ⊥
 double_not_open chains points k i j d is_open =
-    let some : 0 < length (chain_at chains d.number).rest = omega (arith, d.edge.whole, places_count (chain_at chains d.number)) in
+    let some : 0 < length (chain_at chains d.number).rest = omega (arith, d.edge.whole, length-chain_places (chain_at chains d.number)) in
     (is_open.others d.number d.known d.edge.other some).single d.edge.joins
 
 -- ---- as it is read
@@ -244,7 +245,7 @@ double_not_open chains points k i j d is_open =
 pub read_place : (chains : List Chain) (k i : ℕ) (ps : List Place) (a : Place) → ps ≡ chain_places (chain_at chains k)
     → i ≤ length (chain_at chains k).rest → a ≡ get_or ps i a → a ≡ place_at (chain_places (chain_at chains k)) i
 read_place chains k i ps a same within read =
-    let known : i < length (chain_places (chain_at chains k)) = omega (arith, within, places_count (chain_at chains k)) in
+    let known : i < length (chain_places (chain_at chains k)) = omega (arith, within, length-chain_places (chain_at chains k)) in
     read ∙ ap (λ qs. get_or qs i a) same ∙ get_or_default (chain_places (chain_at chains k)) i a nowhere known
 
 pub double_read : (chains : List Chain) (k i j : ℕ) (a b : Place) → a ≡ place_at (chain_places (chain_at chains k)) i

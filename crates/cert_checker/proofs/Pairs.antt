@@ -15,9 +15,10 @@ use Rattle.arc_map.specs.Arranged.{nowhere}
 use Rattle.arc_map.specs.Chains.{Chain, chain_at, chain_places, no_chain, IsOtherEdge}
 use Rattle.arc_map.specs.Paths.{IsAllowedPair, vertex_at, vertices_of}
 use Rattle.arc_map.specs.Vertices.{Vertex, places}
+use Rattle.arc_map.proofs.Chained.{chain_is_known, length-chain_places}
 use Rattle.cert_checker.specs.Open.{IsOpen, IsOpenPair, Joins, LetsRun}
 use Rattle.cert_checker.specs.Runs.{place_at, run_end, run_inner}
-use Rattle.cert_checker.proofs.Parts.{RunParts, place_of_vertex, places_between, places_count}
+use Rattle.cert_checker.proofs.Parts.{RunParts, place_of_vertex, places_between}
 
 -- ---- edges by number
 
@@ -42,14 +43,6 @@ edge_number v (w ∷ ws) a b d (inr e) =
     let h = edge_number w ws a b d e in
     record { number = suc h.number; within = omega (arith, h.within); start = h.start; end = h.end }
 
--- a chain past the last has no edge
-edge_known : (chains : List Chain) (l : ℕ) (c d : Vertex) → IsEdgeOf (chain_at chains l).first (chain_at chains l).rest c d
-    → l < length chains
-edge_known chains l c d e = elim (cases_lt l (length chains)) [
-  | inl known ↦ known
-  | inr past ↦ absurd (subst (λ (k : Chain). IsEdgeOf k.first k.rest c d) (get_or_past chains l no_chain past) e)
-]
-
 edge_some : {A : Type 0} (v : A) (ws : List A) (c d : A) → IsEdgeOf v ws c d → 0 < length ws
 edge_some v [] c d e = absurd e
 edge_some v (w ∷ ws) c d e = omega arith
@@ -64,7 +57,7 @@ chain_place k s d within = sym (get_or-map (λ v. v.place) (k.first ∷ k.rest) 
 each_vertex : (P : Place → Type 0) (k : Chain) → 0 < length k.rest → ((c d : Vertex) → IsEdgeOf k.first k.rest c d → P c.place × P d.place)
     → All P (chain_places k)
 each_vertex P k some ends s x within =
-    let size = places_count k in
+    let size = length-chain_places k in
     let known : s < length (k.first ∷ k.rest) = omega (arith, size, within) in
     let place : (get_or (k.first ∷ k.rest) s k.first).place ≡ get_or (chain_places k) s x = chain_place k s k.first known
     ∙ get_or_default (chain_places k) s nowhere x within in
@@ -83,7 +76,7 @@ end_is_vertex : (k : Chain) (c d : Vertex) → IsEdgeOf k.first k.rest c d
     → Contains (chain_places k) c.place × Contains (chain_places k) d.place
 end_is_vertex k c d e =
     let h = edge_number k.first k.rest c d c e in
-    let size = places_count k in
+    let size = length-chain_places k in
     let before : h.number < length (k.first ∷ k.rest) = omega (arith, h.within) in
     let first : get_or (chain_places k) h.number nowhere ≡ c.place = sym (chain_place k h.number c before) ∙ ap (λ v. v.place) h.start in
     let second : get_or (chain_places k) (suc h.number) nowhere ≡ d.place = sym (chain_place k (suc h.number) c h.within)
@@ -96,7 +89,7 @@ end_is_vertex k c d e =
 pub joined_edge : (k : Chain) (v w : Place) → Joins v w (chain_places k)
     → (c : Vertex) × (d : Vertex) × IsEdgeOf k.first k.rest c d × SameEnds v w c.place d.place
 joined_edge k v w j =
-    let size = places_count k in
+    let size = length-chain_places k in
     let s = j.number in
     let next : s + 1 ≡ suc s = add-one s in
     let within : suc s < length (k.first ∷ k.rest) = omega (arith, size, j.within) in
@@ -116,7 +109,7 @@ pub edge_joins : (k : Chain) (v w : Place) (c d : Vertex) → IsEdgeOf k.first k
     → Joins v w (chain_places k)
 edge_joins k v w c d e ends =
     let h = edge_number k.first k.rest c d c e in
-    let size = places_count k in
+    let size = length-chain_places k in
     let next : h.number + 1 ≡ suc h.number = add-one h.number in
     let before : h.number < length (k.first ∷ k.rest) = omega (arith, h.within) in
     let first : get_or (chain_places k) h.number nowhere ≡ c.place = sym (chain_place k h.number c before) ∙ ap (λ v. v.place) h.start in
@@ -137,7 +130,7 @@ pub shortcut_from_open : (Near : Place → Place → Place → Type 0) (chains :
 shortcut_from_open Near chains points k v skipped w near is_open =
     let lets : (c d : Vertex) (e : IsOtherEdge chains k c d)
     → LetsRun v.place (places skipped) w.place (chain_places (chain_at chains e.chain)) = (λ c d e.
-    let known = edge_known chains e.chain c d e.edge in
+    let known = chain_is_known chains e.chain c d e.edge in
     let some = edge_some (chain_at chains e.chain).first (chain_at chains e.chain).rest c d e.edge in
     is_open.others e.chain known e.other some) in
     record {

@@ -68,6 +68,3 @@ place_of_vertex k i within =
 
 pub places_between : (k : Chain) (a b : ℕ) → places (between a b (vertices_of k)) ≡ between a b (chain_places k)
 places_between k a b = sym (between-map (λ (v : Vertex). v.place) a b (vertices_of k))
-
-pub places_count : (k : Chain) → length (chain_places k) ≡ length k.rest + 1
-places_count k = let e : length (places k.rest) ≡ length k.rest = length-map k.rest (λ v. v.place) in omega (arith, e)

@@ -12,6 +12,7 @@ use Rattle.arc_map.specs.Records.{Record}
 use Rattle.arc_map.specs.Work.{thinned_work}
 use Rattle.arc_map.specs.declared.refs.ChainRef.{ChainRef}
 use Rattle.map_index.specs.MapIndex.{IsAsRead, no_ref}
+use Rattle.monotone_split.proofs.Maps.{chain_same}
 use Rattle.cert_checker.specs.Judged.{AreJudged, IsAccepted, IsFault, chain_spot, demand, free_chains, free_numbers, is_free, record_spot}
 use Rattle.cert_checker.specs.Judging.{Judging, KeepsBase}
 use Rattle.cert_checker.specs.Subject.{pairs_of}
@@ -20,7 +21,6 @@ use Rattle.cert_checker.specs.declared.verdicts.Verdict.{Verdict}
 use Rattle.cert_checker.specs.declared.verdicts.Verdict.TheVariants.{Yes, No}
 use Rattle.cert_checker.proofs.Holding.{held_from_contains, is_held}
 use Rattle.cert_checker.proofs.Listed.{first_left, free_from, free_here, free_later, free_none}
-use Rattle.cert_checker.proofs.Thinned.{other_thinned}
 
 -- the numbers of the chains from number k on that are not held
 abbrev pub numbers_from : List ℕ → List ChainRef → ℕ → List ℕ
@@ -135,7 +135,7 @@ under_way_more before now after entries bound weights e k place r way got free s
           behind = omega (arith, way.behind);
           read = λ n from within.
               let other : n ≡ k → ⊥ = omega (arith, from) in
-              other_thinned now.work.chains k n (vertices_at (chain_at now.work.chains k) (drop 1 r.kept)) other
+              chain_same now.work.chains k n (vertices_at (chain_at now.work.chains k) (drop 1 r.kept)) other
               ∙ way.read n (omega (arith, from)) within;
           rest = left.later;
           onward = λ version verdict end judged. judged_here before now entries bound weights e k place r way got free said version verdict

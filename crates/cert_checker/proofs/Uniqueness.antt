@@ -21,7 +21,7 @@ use Rattle.cert_checker.proofs.Differences.{differ_not_equal}
 
 -- ---- first differences
 
-got_before : {A : Type 0} (xs : List A) (l k : ℕ) → k < l → slice_get (take l xs) k ≡ slice_get xs k
+pub got_before : {A : Type 0} (xs : List A) (l k : ℕ) → k < l → slice_get (take l xs) k ≡ slice_get xs k
 got_before xs zero k before = absurd (omega (arith, before))
 got_before [] (suc l) k before = refl
 got_before (x ∷ xs) (suc l) zero before = refl

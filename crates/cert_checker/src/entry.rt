@@ -14,9 +14,8 @@ use crate::indexed::is_open;
 use crate::near::is_near;
 use crate::verdicts::Reason;
 use arc_map::ChainRecord;
-use chain_side::comes_before;
 use error_cone::Cone;
-use grid_exact::{Bound, Point, Weights};
+use grid_exact::{Bound, Direction, Point, Weights, precedes};
 use map_index::IndexedMap;
 
 // A chain that is judged: its number, its vertices with their coordinates times the weights, and
@@ -140,8 +139,8 @@ fn cone_from(map: &IndexedMap, subject: &Subject<'_>, i: usize) -> Cone
     let _ = (subject.weights.x(), subject.weights.y());
     let places = subject.weighted;
     let frame = map.frame(subject.chain);
-    let rising = comes_before(frame, true, places[0], places[places.len() - 1]);
-    Cone::start(frame, rising, places[i], subject.bound)
+    let rising = precedes(frame, places[0], places[places.len() - 1]);
+    Cone::start(Direction { frame, rising }, places[i], subject.bound)
 }
 
 // Whether the kept vertices rise from the first vertex of a chain of so many edges to its last.

@@ -30,7 +30,7 @@ use cert_format::Certificate;
 use grid_exact::{Bound, MAX_CHAIN_VERTICES, Point, Weights};
 use map_index::IndexedMap;
 use monotone_split::split;
-use std::alloc::{AllocError, Global};
+use std::alloc::Global;
 use std::marker::Model;
 
 /// A map with its held arcs, for which one certificate is judged. Contracts see the map at work,
@@ -60,9 +60,9 @@ impl JudgeState {
     pub fn new(alloc: Global, partly: Partly) -> Result<JudgeState, NoMemory>
         ensures { IfOk result (IsFreshFor partly) }
     {
-        let held = copied(alloc, partly.held())?;
-        let chains = split(alloc, partly.map())?;
-        let map = IndexedMap::build(alloc, partly.into_map(), chains)?;
+        let (map, held) = partly.into_parts();
+        let chains = split(alloc, &map)?;
+        let map = IndexedMap::build(alloc, map, chains)?;
         let weighted = Vec::with_capacity(alloc, MAX_CHAIN_VERTICES)?;
         Ok(JudgeState {
             map,
@@ -305,17 +305,6 @@ fn is_at(said: &ChainRecord<'_>, place: ChainRef) -> bool
     ensures { (k : ℕ) → IsTrue result ↔ (record_spot (record_of said.now) ≡ chain_spot (k, place)) }
 {
     said.arc == place.arc && said.from == place.from
-}
-
-// A list of the same arcs.
-fn copied(alloc: Global, list: &ArcList) -> Result<ArcList, AllocError>
-    ensures { IfOk result (λ copy. copy ≡ list.now) }
-{
-    let mut arcs = Vec::new(alloc);
-    for k in 0..list.count() {
-        arcs.push(list.get(k))?;
-    }
-    Ok(ArcList::new(arcs))
 }
 
 // Puts the points with their coordinates times the weights in the place of those that were there.

@@ -133,7 +133,7 @@ single_layers Pair on = record { count = refl; each = each }
 
 -- ---- how long a path is
 
-steps_left : (Pair : ℕ → ℕ → Type 0) (m i : ℕ) (rest : List ℕ) → LeadsTo Pair m i rest → i + length rest ≤ m
+pub steps_left : (Pair : ℕ → ℕ → Type 0) (m i : ℕ) (rest : List ℕ) → LeadsTo Pair m i rest → i + length rest ≤ m
 steps_left Pair m i [] leads = omega arith
 steps_left Pair m i (next ∷ rest) leads = let up = leads.0 in omega (arith, steps_left Pair m next rest leads.2)
 

@@ -37,7 +37,7 @@ path_of_all Near v [] = refl
 path_of_all Near v (w ∷ ws) = let none : List Vertex = [] in
     (none, ws, refl, All-nil (λ (k : Vertex). Near v.place w.place k.place), path_of_all Near w ws)
 
-skipped_end : (v : Vertex) (skipped : List Vertex) (w : Vertex) (rest : List Vertex) → end_of v (skipped ++ w ∷ rest) ≡ end_of w rest
+pub skipped_end : (v : Vertex) (skipped : List Vertex) (w : Vertex) (rest : List Vertex) → end_of v (skipped ++ w ∷ rest) ≡ end_of w rest
 skipped_end v [] w rest = refl
 skipped_end v (s ∷ ss) w rest = skipped_end s ss w rest
 

@@ -26,6 +26,7 @@ use Rattle.monotone_split.proofs.Kept.{thinned_are_kept}
 use Rattle.monotone_split.proofs.Named.{arranged_by_names}
 use Rattle.monotone_split.proofs.Numbers.{path_in, path_by_numbers_keeps_map}
 use Rattle.monotone_split.proofs.Parity.{parity_of_arcs}
+use Rattle.monotone_split.proofs.Outcome.{inside_alike}
 use Rattle.chain_replace.specs.Run.{Terms, IsAllowedIn, last_of, IsRecordOf, IsChainHeld, AreReplaced, IsOutcome, Progress, map_so_far}
 use Rattle.chain_replace.specs.Laws.{KeepsFaces}
 use Rattle.chain_replace.specs.UnderWay.{IsSound}
@@ -153,14 +154,6 @@ keeps_run p added after sound below (inr goes) =
           (record (chain_at p.work.chains p.next) { rest = kept_vertices p r });
       parity = keeps.arc_parity;
     })
-
-inside_alike : (p : Place) (xs ys : List (List Place)) → ((arc : ℕ)
-    → is_list_crossed_oddly p (get_or xs arc []) ≡ is_list_crossed_oddly p (get_or ys arc [])) → (numbers : List ℕ)
-    → is_inside_of p xs numbers ≡ is_inside_of p ys numbers
-inside_alike p xs ys same [] = refl
-inside_alike p xs ys same (n ∷ ns) =
-    ap (λ (b : Bool). differ b (is_inside_of p xs ns)) (same n)
-    ∙ ap (λ (b : Bool). differ (is_list_crossed_oddly p (get_or ys n [])) b) (inside_alike p xs ys same ns)
 
 -- the faces of two maps that chains of one map make up
 faces_between : (held : List ℕ) (m : Map) (start before after : List Chain) → (refs : List ChainRef) → AreChainsIn m refs

@@ -17,9 +17,13 @@ use Rattle.arc_map.specs.Chains.{Chain}
 use Rattle.arc_map.specs.Edges.{EachOf}
 use Rattle.arc_map.specs.Work.{work_of, vertex_in, chain_in, AreChainsIn, LiesInArc}
 use Rattle.arc_map.specs.declared.refs.ChainRef.{ChainRef}
+use Rattle.arc_map.proofs.Reading.{end_of_run}
 use Rattle.monotone_split.proofs.Arranged.{of_both}
 use Rattle.monotone_split.proofs.Cuts.{parts_of_arc, parts_of_arcs}
 use Rattle.monotone_split.proofs.Finish.{cut_joined, taken, left_over}
+use Rattle.monotone_split.proofs.ArcVertices.{first_place}
+use Rattle.monotone_split.proofs.Parity.{no_walk}
+use Rattle.monotone_split.proofs.Outcome.{places_from}
 use Rattle.chain_replace.specs.Laws.{OutcomeThinsArcs}
 use Rattle.chain_replace.specs.Run.{Terms, NearBy}
 use Rattle.chain_replace.specs.Thinned.{IsThinned, ThinsArcs}
@@ -29,15 +33,10 @@ use Rattle.chain_replace.proofs.ThinnedChains.{IsLeftOf, thins_from, each_is_lef
 
 -- ---- the vertices of an arc have its places
 
-first_place : (l : List Place) (at : ℕ) (p : Place) (ps : List Place) → drop at l ≡ p ∷ ps → get_or l at nowhere ≡ p
-first_place l at p ps e =
-    let here : at + 0 ≡ at = omega arith in
-    ap (λ (k : ℕ). get_or l k nowhere) (sym here) ∙ sym (get_or-drop at l 0 nowhere) ∙ ap (λ (qs : List Place). get_or qs 0 nowhere) e
-
-one_dropped : (l : List Place) (at : ℕ) (p : Place) (ps : List Place) → drop at l ≡ p ∷ ps → drop (suc at) l ≡ ps
+pub one_dropped : (l : List Place) (at : ℕ) (p : Place) (ps : List Place) → drop at l ≡ p ∷ ps → drop (suc at) l ≡ ps
 one_dropped l at p ps e = ap (λ (k : ℕ). drop k l) (sym (add-one at)) ∙ sym (drop-drop 1 at l) ∙ ap (λ (qs : List Place). drop 1 qs) e
 
-spelled_from : (arc at : ℕ) (whole : List Place) (v : Vertex) (p : Place) (ps : List Place) → v.at ≡ at → drop at whole ≡ p ∷ ps
+pub spelled_from : (arc at : ℕ) (whole : List Place) (v : Vertex) (p : Place) (ps : List Place) → v.at ≡ at → drop at whole ≡ p ∷ ps
     → EachEdge (IsNextOf whole) v (vertices_from arc (suc at) ps)
 spelled_from arc at whole v p [] same rest = tt
 spelled_from arc at whole v p (q ∷ []) same rest =
@@ -49,14 +48,9 @@ spelled_from arc at whole v p (q ∷ r ∷ rs) same rest =
           (r ∷ rs) refl next,
     )
 
-places_from : (arc at : ℕ) (ps : List Place) → places (vertices_from arc at ps) ≡ ps
-places_from arc at [] = refl
-places_from arc at (p ∷ []) = refl
-places_from arc at (p ∷ q ∷ qs) = ap (λ (xs : List Place). p ∷ xs) (places_from arc (suc at) (q ∷ qs))
-
 -- ---- the walk that is left
 
-walk_left : (t : Terms) (v : Vertex) (ws : List Vertex) (ks ls : List Chain) → IsCutInto v ws ks → AllZip (IsLeftOf t) ks ls
+pub walk_left : (t : Terms) (v : Vertex) (ws : List Vertex) (ks ls : List Chain) → IsCutInto v ws ks → AllZip (IsLeftOf t) ks ls
     → IsPath (AreNear (NearBy t)) v ws (joined_rests ls)
 walk_left t v ws [] [] cut left = cut
 walk_left t v ws [] (l ∷ ls) cut left = absurd left
@@ -169,10 +163,6 @@ walk_is_thinned t arc p ps ws k ks l ls whole spelled arcs cut left =
           (ends_left t v ws (k ∷ ks) (l ∷ ls) cut left);
     }
 
-no_walk : (arc : ℕ) (q : Place) (qs : List Place) → vertices_from arc 1 (q ∷ qs) ≡ [] → ⊥
-no_walk arc q [] e = cc
-no_walk arc q (r ∷ rs) e = cc
-
 one_place : (t : Terms) (arc : ℕ) (p : Place) → ArcLeft t arc (p ∷ []) (p ∷ []) []
 one_place t arc p =
     let none : List ℕ = [] in
@@ -210,14 +200,14 @@ arc_left t arc (p ∷ q ∷ qs) (k ∷ ks) (l ∷ ls) cut left =
 
 -- ---- all arcs
 
-record LeftParts (t : Terms) (here later ls : List Chain) : Type 0 where
-  first : List Chain
-  second : List Chain
-  whole : ls ≡ first ++ second
-  first_left : AllZip (IsLeftOf t) here first
-  second_left : AllZip (IsLeftOf t) later second
+pub record LeftParts (t : Terms) (here later ls : List Chain) : Type 0 where
+  pub first : List Chain
+  pub second : List Chain
+  pub whole : ls ≡ first ++ second
+  pub first_left : AllZip (IsLeftOf t) here first
+  pub second_left : AllZip (IsLeftOf t) later second
 
-left_parts : (t : Terms) (here later ls : List Chain) → AllZip (IsLeftOf t) (here ++ later) ls → LeftParts t here later ls
+pub left_parts : (t : Terms) (here later ls : List Chain) → AllZip (IsLeftOf t) (here ++ later) ls → LeftParts t here later ls
 left_parts t [] later ls left = record { first = []; second = ls; whole = refl; first_left = tt; second_left = left }
 left_parts t (k ∷ ks) later [] left = absurd left
 left_parts t (k ∷ ks) later (l ∷ ls) left =
@@ -231,7 +221,7 @@ left_parts t (k ∷ ks) later (l ∷ ls) left =
       second_left = rest.second_left;
     }
 
-firsts_left : (t : Terms) (P : Vertex → Type 0) (ks ls : List Chain) → EachOf (λ k. P k.first) ks → AllZip (IsLeftOf t) ks ls
+pub firsts_left : (t : Terms) (P : Vertex → Type 0) (ks ls : List Chain) → EachOf (λ k. P k.first) ks → AllZip (IsLeftOf t) ks ls
     → EachOf (λ l. P l.first) ls
 firsts_left t P [] [] each left = tt
 firsts_left t P [] (l ∷ ls) each left = absurd left
@@ -312,11 +302,6 @@ count_now arc (ps ∷ pss) ls = ap suc (count_now (suc arc) pss (chains_past_arc
 
 -- ---- the chains by where they lie
 
-run_ends : (m : Map) (arc at n : ℕ) → end_of (vertex_in m arc at) (map (vertex_in m arc) (range_with_len (at + 1) n))
-    ≡ vertex_in m arc (at + n)
-run_ends m arc at zero = ap (vertex_in m arc) (omega arith)
-run_ends m arc at (suc n) = run_ends m arc (at + 1) n ∙ ap (vertex_in m arc) (omega arith)
-
 each_chain : (P : Chain → Type 0) (m : Map) (refs : List ChainRef) (r : ChainRef) (j : ℕ) → EachOf P (map (chain_in m) refs)
     → j < length refs → get_or refs j r ≡ r → P (chain_in m r)
 each_chain P m [] r j each below is = absurd (omega arith)
@@ -331,7 +316,7 @@ ends_by_refs m arc numbers refs r each lies there same =
     let some = lies.edge in
     let number : r.«from» + (r.to - r.«from») ≡ r.to = omega arith in
     let last : (end_of (vertex_in m r.arc r.«from») (chain_in m r).rest).at ≡ r.to =
-    ap (λ (v : Vertex). v.at) (run_ends m r.arc r.«from» (r.to - r.«from»)) ∙ number in
+    ap (λ (v : Vertex). v.at) (end_of_run m r.arc r.«from» (r.to - r.«from»)) ∙ number in
     (ends.0, subst (λ (n : ℕ). Contains numbers n) last ends.1)
 
 -- ---- the law

@@ -54,7 +54,7 @@ impl PathFinder {
         ensures { IfOk result (λ finder. finder.room ≡ items) }
     {
         Ok(PathFinder {
-            rows: rows(alloc)?,
+            rows: Rows::new(alloc)?,
             beside: Beside::with_room(alloc, items)?,
             row: vec![in alloc; false; MAX_CHAIN_VERTICES]?,
             xs: vec![in alloc; 0; MAX_CHAIN_VERTICES]?,
@@ -193,12 +193,4 @@ fn write_path(rows: &Rows, m: usize, layers: &[u32], out: &mut [u32]) -> usize
     ensures length { length out.new ≡ length out.old }
 {
     least_path(rows, m, layers, &mut out[..m + 1])
-}
-
-// Rows with no bit set. The only error is want of memory.
-fn rows(alloc: Global) -> Result<Rows, NoMemory> {
-    match Rows::new(alloc) {
-        Ok(rows) => Ok(rows),
-        Err(_) => Err(NoMemory),
-    }
 }

@@ -3,7 +3,6 @@
 #![tactic(auto)]
 
 mod finder;
-mod held;
 mod laws;
 mod run;
 mod terms;

@@ -6,7 +6,6 @@ ghost use Rattle.chain_replace.specs.Laws.{KeepsFaces};
 ghost use Rattle.chain_replace.specs.Rooms.{vertices_in};
 
 use crate::finder::PathFinder;
-use crate::held::copy_of;
 use crate::terms::Terms;
 use arc_map::{NoMemory, RunRecords, WorkMap};
 use arrangement_check::Partly;
@@ -65,9 +64,9 @@ impl RunState {
         ensures { IfOk result (IsStart partly.map
             (record { held = partly.held; bound = bound; weights = weights })) }
     {
-        let held = copy_of(alloc, partly.held())?;
-        let chains = split(alloc, partly.map())?;
-        let map = IndexedMap::build(alloc, partly.into_map(), chains)?;
+        let (map, held) = partly.into_parts();
+        let chains = split(alloc, &map)?;
+        let map = IndexedMap::build(alloc, map, chains)?;
         let finder = PathFinder::with_room(alloc, map.item_count())?;
         let work = map.work();
         let vertices = vertex_count(work);

@@ -5,7 +5,7 @@ ghost use Rattle.chain_side.specs.Sides.{IsSideBySign};
 
 use crate::search::{comes_before, edge_at};
 use crate::sides::Side;
-use grid_exact::{Frame, Point, area, precedes};
+use grid_exact::{Direction, Frame, Point, area, precedes};
 
 /// The side of a chain on which p lies. The chain is the list of its vertices, two or more, which
 /// run strictly one way in the order of the frame. An edge is found by halving, so a chain of n
@@ -17,10 +17,11 @@ pub fn side(chain: &[Point], frame: Frame, p: Point) -> Side
     let first = chain[0];
     let last = chain[chain.len() - 1];
     let rising = precedes(frame, first, last);
-    if comes_before(frame, rising, p, first) || comes_before(frame, rising, last, p) {
+    let direction = Direction { frame, rising };
+    if comes_before(direction, p, first) || comes_before(direction, last, p) {
         return Side::Outside;
     }
-    let at = edge_at(chain, frame, rising, p);
+    let at = edge_at(chain, direction, p);
     if rising {
         side_of_edge(frame, chain[at], chain[at + 1], p)
     } else {

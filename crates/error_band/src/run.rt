@@ -13,8 +13,10 @@ pub fn near_run(xs: &[i64], ys: &[i64], i: usize, j: usize, bound: Bound) -> boo
     requires coordinates { AreCoordinates xs.now ys.now }
     requires forwards { i < j }
     requires in_lists { j < length xs.now }
-    ensures { IsTrue result ↔ EachBetween (i + 1) j (λ p.
-        IsWithin (place_at xs.now ys.now i) (place_at xs.now ys.now j) p bound) xs.now ys.now }
+    ensures { IsTrue result
+        ↔ EachBetween (i + 1) j
+        (λ p. IsWithin (place_at xs.now ys.now i) (place_at xs.now ys.now j) p bound) xs.now
+        ys.now }
 {
     let from = point_at(xs, ys, i);
     let to = point_at(xs, ys, j);

@@ -46,7 +46,7 @@ pub record AreLimits (c : Cone) (above below : Way) (v : Place) : Type 0 where
 pub lets_taken : (c : Cone) (p v : Place) (above below : Way) → IsTaken c p above below → IsPast c v → AreLimits c above below v
     ↔ (Lets c v × Passes c p v)
 lets_taken c p v above below h past =
-    let low = (along_forward c.frame c.rising c.origin v past).across in
+    let low = (along_forward c.direction.frame c.direction.rising c.origin v past).across in
     let up = h.above_is.same (way_to c v) low in
     let down = h.below_is.same (mirrored (way_to c v)) low in (
       λ lim. let a = up.0 lim.above_lets in let b = down.0 lim.below_lets in
@@ -59,7 +59,7 @@ lets_taken c p v above below h past =
     )
 
 pub passes_near : (c : Cone) (p v : Place) → pos 0 ≤ℤ c.bound → IsWithin c.origin v p c.bound → Passes c p v
-passes_near c p v some near far = meets_by_within c.frame c.rising c.origin v p c.bound some near
+passes_near c p v some near far = meets_by_within c.direction.frame c.direction.rising c.origin v p c.bound some near
 
 -- ---- a cone that lets nothing
 
@@ -70,14 +70,14 @@ pub shut_iff : (c : Cone) → IsShut c ↔ ((v : Place) → IsPast c v → ¬ (L
 shut_iff c =
     let up = forward_by c.above c.above_forward in
     let down = forward_by c.below c.below_forward in
-    let there = place_by c.frame c.rising c.origin c.above in
-    let way = way_of-place_by c.frame c.rising c.origin c.above in (
-      λ shut v past lets. let is_open = open_by c.above c.below (way_to c v) up down (along_forward c.frame c.rising c.origin v past)
-          lets.above lets.below in omega (arith, sums, is_open, shut),
+    let there = place_by c.direction.frame c.direction.rising c.origin c.above in
+    let way = way_of-place_by c.direction.frame c.direction.rising c.origin c.above in (
+      λ shut v past lets. let is_open = open_by c.above c.below (way_to c v) up down
+          (along_forward c.direction.frame c.direction.rising c.origin v past) lets.above lets.below in omega (arith, sums, is_open, shut),
       λ none.
           elim (at_most_or_above (pos 0 -ℤ c.above.across *ℤ c.below.up) (c.above.up *ℤ c.below.across)) [
             | inl is_open ↦
-                absurd (none there (along_by c.frame c.rising c.origin c.above up) (record {
+                absurd (none there (along_by c.direction.frame c.direction.rising c.origin c.above up) (record {
                   above = subst (λ (w : Way). IsUnder c.above w) (sym way) (under_itself c.above);
                   below = subst (λ (w : Way). IsUnder c.below (mirrored w)) (sym way) (open_limit c.above c.below is_open);
                 }))

@@ -88,7 +88,7 @@ weighted_runs wx wy frame rising v ws d place count wide high monotone size same
 past_by : (c : Cone) (frame : Frame) (rising : Bool) (o v : Place) (bound : ℤ) → StartsAt c frame rising o bound → IsAlong frame rising o v
     → IsPast c v
 past_by c frame rising o v bound at h =
-    subst (λ (f : Frame). IsAlong f c.rising c.origin v) (sym at.in_frame)
+    subst (λ (f : Frame). IsAlong f c.direction.rising c.origin v) (sym at.in_frame)
     (subst (λ (r : Bool). IsAlong frame r c.origin v) (sym at.direction)
     (subst (λ (x : Place). IsAlong frame rising x v) (sym at.place) h))
 
@@ -103,12 +103,12 @@ cone_starts c frame rising place count bound i p at is runs =
     }
 
 pub cone_stays : (c new : Cone) (place : ℕ → Place) (count : ℕ) (bound : ℤ) (i : ℕ) → IsConeFrom c place count bound i
-    → StartsAt new c.frame c.rising c.origin c.bound → IsConeFrom new place count bound i
+    → StartsAt new c.direction.frame c.direction.rising c.origin c.bound → IsConeFrom new place count bound i
 cone_stays c new place count bound i cone at =
     record {
       origin = at.place ∙ cone.origin;
       reach = at.reach ∙ cone.reach;
-      later = λ j after within. past_by new c.frame c.rising c.origin (place j) c.bound at (cone.later j after within);
+      later = λ j after within. past_by new c.direction.frame c.direction.rising c.origin (place j) c.bound at (cone.later j after within);
     }
 
 pub lets_all : (c : Cone) (place : ℕ → Place) (count : ℕ) (bound : ℤ) (i : ℕ) → IsConeFrom c place count bound i

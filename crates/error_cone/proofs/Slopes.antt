@@ -10,7 +10,7 @@ use Rattle.grid_exact.specs.declared.frame.Frame.TheVariants.{Plain, Turned}
 use Rattle.grid_exact.proofs.WholeLaws.{sums, *ℤ-one}
 use Rattle.grid_exact.proofs.Signs.{Negative, Zero, Positive, sign_of, at_most_or_above, times_nonnegative, times_positive}
 use Rattle.grid_exact.proofs.Signs.{nonnegative_from_times}
-use Rattle.grid_exact.proofs.Orders.{tested, Yes, No, no_times}
+use Rattle.grid_exact.proofs.Orders.{tested, Yes, No, no_times, denied}
 use Rattle.grid_exact.proofs.Polynomial.{Whole, ◌⊕◌, ◌⊖◌, ◌⊗◌, ◌≈◌, identity_2, identity_6}
 use Rattle.chain_side.specs.Along.{IsAlong}
 use Rattle.error_cone.specs.Ways.{step_of, way_of, is_forward, mirrored, IsUnder}
@@ -27,9 +27,6 @@ start_of_all = record { x = pos 0; y = pos 0 }
 
 abbrev end_of_way : Way → Place
 end_of_way w = record { x = w.across; y = w.up }
-
-denied : (t : Bool) → t ≡ false → IsTrue t → ⊥
-denied t e h = cc
 
 forward_before : (w : Way) → IsBefore start_of_all (end_of_way w) → GoesForward w
 forward_before w (Left h) = record { across = omega (arith, sums); up = λ e. absurd (omega (arith, sums)) }

@@ -9,18 +9,18 @@ use Rattle.error_cone.specs.declared.ways.Way.{Way}
 
 -- the cone starts at this place of a chain that rises in the order of the frame, or that falls, and has this bound
 pub record StartsAt (c : Cone) (frame : Frame) (rising : Bool) (start : Place) (bound : ℤ) : Type 0 where
-  pub in_frame : c.frame ≡ frame
-  pub direction : c.rising ≡ rising
+  pub in_frame : c.direction.frame ≡ frame
+  pub direction : c.direction.rising ≡ rising
   pub place : c.origin ≡ start
   pub reach : c.bound ≡ bound
 
 -- v is strictly past the start of the cone
 abbrev pub IsPast : Cone → Place → Type 0
-IsPast c v = IsAlong c.frame c.rising c.origin v
+IsPast c v = IsAlong c.direction.frame c.direction.rising c.origin v
 
 -- the way from the start of the cone to p, in the axes of the chain
 abbrev pub way_to : Cone → Place → Way
-way_to c p = way_of c.frame c.rising c.origin p
+way_to c p = way_of c.direction.frame c.direction.rising c.origin p
 
 -- the cone lets v
 pub record Lets (c : Cone) (v : Place) : Type 0 where

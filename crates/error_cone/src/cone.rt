@@ -4,7 +4,7 @@ ghost use Rattle.grid_exact.specs.Geometry.{Place, IsWithin};
 ghost use Rattle.error_cone.specs.Ways.{is_forward};
 
 use crate::ways::{Way, flatter, mirror, product, steepest, way_between};
-use grid_exact::{Bound, Frame, Point};
+use grid_exact::{Bound, Direction, Point};
 
 /// From a start, the points past it along a chain to which a straight way may still pass within a
 /// bound of each point taken so far.
@@ -16,8 +16,7 @@ use grid_exact::{Bound, Frame, Point};
 /// are kept.
 #[derive(Clone, Copy)]
 pub struct Cone {
-    frame: Frame,
-    rising: bool,
+    direction: Direction,
     origin: Point,
     bound: Bound,
     above: Way,
@@ -30,16 +29,14 @@ pub struct Cone {
 impl Cone {
     ghost use Rattle.error_cone.specs.Cone.{Lets, StartsAt, IsPast, Passes};
 
-    /// A cone at this start that lets every point past it. `rising` tells whether the chain rises
-    /// in the order of the frame, or falls. The bound is in grid units; where the points are
-    /// weighted ones, in units of them.
-    pub fn start(frame: Frame, rising: bool, from: Point, bound: Bound) -> Cone
-        ensures origin { StartsAt result frame rising from bound }
+    /// A cone at this start, along a chain of this direction, that lets every point past it. The
+    /// bound is in grid units; where the points are weighted ones, in units of them.
+    pub fn start(direction: Direction, from: Point, bound: Bound) -> Cone
+        ensures origin { StartsAt result direction.frame direction.rising from bound }
         ensures lets { (v : Place) → IsPast result v → Lets result v }
     {
         Cone {
-            frame,
-            rising,
+            direction,
             origin: from,
             bound,
             above: Way { across: 0, up: 1 },
@@ -55,10 +52,10 @@ impl Cone {
             ↔ (Lets self.old v × Passes self.old p v) }
         ensures near { (v : Place) → IsPast self.old v → IsWithin self.old.origin v p self.old.bound
             → Lets self.old v → Lets self.new v }
-        ensures origin { StartsAt self.new self.old.frame self.old.rising self.old.origin
-            self.old.bound }
+        ensures origin { StartsAt self.new self.old.direction.frame self.old.direction.rising
+            self.old.origin self.old.bound }
     {
-        let way = way_between(self.frame, self.rising, self.origin, p);
+        let way = way_between(self.direction, self.origin, p);
         if way.across > self.bound.value() {
             self.above = flatter(self.above, steepest(way, self.bound));
             self.below = flatter(self.below, steepest(mirror(way), self.bound));

@@ -5,7 +5,7 @@ ghost use Rattle.grid_exact.specs.declared.frame.Frame.{Frame};
 ghost use Rattle.error_cone.specs.Ways.{step_of, way_of, is_forward, mirrored, IsUnder};
 ghost use Rattle.error_cone.specs.Ways.{IsUnderSquare};
 
-use grid_exact::{Bound, Frame, Point};
+use grid_exact::{Bound, Direction, Frame, Point};
 
 // How far a way goes across, which is the way that the frame of the chain compares first, and up.
 #[derive(Clone, Copy)]
@@ -14,16 +14,16 @@ pub struct Way {
     pub up: i64,
 }
 
-// The way from a to b in the axes of a chain that rises in the order of the frame, or that falls.
-pub fn way_between(frame: Frame, rising: bool, a: Point, b: Point) -> Way
-    ensures way { result ≡ way_of frame rising a b }
+// The way from a to b in the axes of a chain of this direction.
+pub fn way_between(direction: Direction, a: Point, b: Point) -> Way
+    ensures way { result ≡ way_of direction.frame direction.rising a b }
     ensures across_bounded { unsigned_abs result.across ≤ 2 ^ 30 }
     ensures up_bounded { unsigned_abs result.up ≤ 2 ^ 30 }
 {
-    if rising {
-        step(frame, a, b)
+    if direction.rising {
+        step(direction.frame, a, b)
     } else {
-        step(frame, b, a)
+        step(direction.frame, b, a)
     }
 }
 

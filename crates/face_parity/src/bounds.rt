@@ -1,12 +1,10 @@
 //! Boxes round positions, and where lists of positions begin and end, in offsets: coordinates that
 //! are counted from the least one of the grid.
 ghost use Rattle.std.specs.Prelude.{◌≡◌, ◌<◌, ◌≤◌, ◌^◌, All, length, min, max};
-ghost use Rattle.grid_exact.specs.Geometry.{IsGridNumber};
-ghost use Rattle.sweep_index.specs.Offsets.{offset_of};
 ghost use Rattle.face_parity.specs.Bounds.{IsOffsetOf, IsIn, IsRound, IsEndsOf, do_part};
 ghost use Rattle.face_parity.specs.Bounds.{does_reach};
 
-use grid_exact::{MAX_COORDINATE, Point, exactly_one};
+use grid_exact::{Point, exactly_one};
 
 // The coordinates of a place, counted from the least one.
 #[derive(Clone, Copy)]
@@ -21,19 +19,10 @@ impl Offset {
         ensures { IsOffsetOf p result }
     {
         Offset {
-            x: counted(p.x()),
-            y: counted(p.y()),
+            x: sweep_index::offset(p.x()),
+            y: sweep_index::offset(p.y()),
         }
     }
-}
-
-// The coordinate, counted from the least one, in grid units.
-fn counted(z: i64) -> u32
-    requires { IsGridNumber z }
-    ensures value { result ≡ offset_of z }
-    ensures small { result ≤ 2 ^ 30 }
-{
-    (z + MAX_COORDINATE) as u32
 }
 
 // A closed box.

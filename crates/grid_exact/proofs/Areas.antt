@@ -1,5 +1,5 @@
 -- Areas of triangles at a common point of two segments, and a common point from the signs of areas.
-use Rattle.std.proofs.Common.{◌≡◌, [], ◌∷◌, ℤ, pos, ◌-ℤ◌, ◌*ℤ◌, ◌≤ℤ◌, ◌<ℤ◌, refl, arith}
+use Rattle.std.proofs.Common.{◌≡◌, [], ◌∷◌, ℤ, pos, ◌+ℤ◌, ◌-ℤ◌, ◌*ℤ◌, ◌≤ℤ◌, ◌<ℤ◌, refl, arith}
 use Rattle.grid_exact.specs.Geometry.{Place, area_of, turned, CommonPoint}
 use Rattle.grid_exact.specs.Views.{negated}
 use Rattle.grid_exact.proofs.WholeLaws.{sums}
@@ -9,6 +9,12 @@ use Rattle.grid_exact.proofs.Spots.{spot, numbers_of, area_in, turn_in}
 -- the cross product of the ways from a to b and from c to d
 abbrev pub turn_of : Place → Place → Place → Place → ℤ
 turn_of a b c d = (b.x -ℤ a.x) *ℤ (d.y -ℤ c.y) -ℤ (b.y -ℤ a.y) *ℤ (d.x -ℤ c.x)
+
+-- the area by the ways from p
+pub area_parts : (a b p : Place) → area_of a b p ≡ (b.x -ℤ p.x) *ℤ (p.y -ℤ a.y) +ℤ (p.x -ℤ a.x) *ℤ (p.y -ℤ b.y)
+area_parts a b p =
+    identity_6 a.x a.y b.x b.y p.x p.y
+    (λ k m g h r s. (g ⊖ k) ⊗ (s ⊖ m) ⊖ (h ⊖ m) ⊗ (r ⊖ k) ≈ (g ⊖ r) ⊗ (s ⊖ m) ⊕ (r ⊖ k) ⊗ (s ⊖ h)) refl
 
 -- ---- from a common point to areas
 

@@ -2,8 +2,8 @@
 --
 -- `compared` splits into before, same and after; `tested` splits the test `is_before` with what each answer says. For the
 -- order that compares y, then x, give the places as `turned`.
-use Rattle.std.proofs.Common.{◌≡◌, inl, inr, true, false, [], ◌∷◌, ℤ, pos, negsuc, ◌+ℤ◌, ◌-ℤ◌, ◌*ℤ◌, ◌≤ℤ◌, ◌<ℤ◌, int_lt, int_le, refl, sym}
-use Rattle.std.proofs.Common.{ap, subst, ◌∙◌, arith, ◌↔◌, IsTrue, FitsSigned, to_z, of_z}
+use Rattle.std.proofs.Common.{◌≡◌, inl, inr, Bool, true, false, [], ◌∷◌, ℤ, pos, negsuc, ◌+ℤ◌, ◌-ℤ◌, ◌*ℤ◌, ◌≤ℤ◌, ◌<ℤ◌, int_lt, int_le, refl}
+use Rattle.std.proofs.Common.{sym, ap, subst, ◌∙◌, arith, ◌↔◌, IsTrue, FitsSigned, to_z, of_z}
 use Rattle.std.proofs.lemmas.Int.{ints, to_z-of_z}
 use Rattle.std.specs.Int.Signed.{lt_z}
 use mir.Syntax.{Width}
@@ -23,6 +23,9 @@ use Rattle.grid_exact.specs.Spans.{IsUpTo}
 use Rattle.grid_exact.proofs.Commons.{same_place}
 
 -- ---- tests of whole numbers
+
+pub denied : (t : Bool) → t ≡ false → IsTrue t → ⊥
+denied t e h = cc
 
 pub lt_yes : (a b : ℤ) → a <ℤ b → int_lt a b ≡ true
 lt_yes a b h = grind (arith, ints)

@@ -46,8 +46,8 @@ pub(crate) fn four_in_band(
 pub(crate) fn four_on_left(a: Point, b: Point, xs: &[i64], ys: &[i64], at: usize) -> bool
     requires coordinates { AreCoordinates xs.now ys.now }
     requires in_lists { at + LANES ≤ length xs.now }
-    ensures { IsTrue result ↔ EachBetween at (at + LANES) (λ p. pos 0 <ℤ area_of a b p) xs.now
-        ys.now }
+    ensures { IsTrue result
+        ↔ EachBetween at (at + LANES) (λ p. pos 0 <ℤ area_of a b p) xs.now ys.now }
 {
     let across = i64x4::splat(b.x() - a.x());
     let up = i64x4::splat(b.y() - a.y());

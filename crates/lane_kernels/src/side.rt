@@ -33,8 +33,8 @@ pub fn first_off_side(a: Point, b: Point, xs: &[i64], ys: &[i64], hand: Hand) ->
 fn first_off_left(a: Point, b: Point, xs: &[i64], ys: &[i64]) -> Option<usize>
     requires { AreCoordinates xs.now ys.now }
     ensures none { IsNone result ↔ EachPlace (λ p. pos 0 <ℤ area_of a b p) xs.now ys.now }
-    ensures first { IfSome result (IsFirstOff 0 (length xs.now) (λ p. pos 0 <ℤ area_of a b p) xs.now
-        ys.now) }
+    ensures first { IfSome result
+        (IsFirstOff 0 (length xs.now) (λ p. pos 0 <ℤ area_of a b p) xs.now ys.now) }
 {
     let count = xs.len();
     let mut at = 0;

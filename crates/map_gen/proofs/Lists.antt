@@ -26,13 +26,6 @@ pub list-begins : (f : ℕ → List ℕ) (n : ℕ) → 0 < n → list_of f n ≡
 list-begins f zero h = absurd (omega arith)
 list-begins f (suc m) h = let same : suc m - 1 ≡ m = omega arith in rw same refl
 
--- the text so far and what is left make up the whole, also after the next part behind a comma
-pub goes-on : (before comma after part left more whole : List ℕ) → comma ≡ before ++ codes "," → after ≡ comma ++ part
-    → left ≡ codes "," ++ part ++ more → before ++ left ≡ whole → after ++ more ≡ whole
-goes-on before comma after part left more whole p q r s =
-    let split = rw r at s in
-    rw (q, p) (simp append_assoc (simp append_assoc at split))
-
 pub list-done : (f : ℕ → List ℕ) (k n : ℕ) (before written closed : List ℕ) → 0 < n → n ≤ k
     → written ++ left f k n ≡ before ++ codes "[" ++ f 0 ++ left f 1 n → closed ≡ written ++ codes "]" → closed ≡ before ++ list_of f n
 list-done f k n before written closed some past whole close =

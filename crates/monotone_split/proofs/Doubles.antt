@@ -4,13 +4,13 @@ use Rattle.grid_exact.specs.Walks.{EachEdge}
 use Rattle.arc_map.specs.Vertices.{Vertex, MayJoin, MeetLawfully}
 use Rattle.arc_map.specs.Vertices.MayJoin.{One, BothEnd}
 use Rattle.grid_exact.specs.Runs.{IsEdgeOf}
+use Rattle.grid_exact.proofs.Orders.{denied}
 use Rattle.arc_map.specs.Clear.{IsWithinChain, EachButLast}
 use Rattle.arc_map.specs.Chains.{chain_at, IsOtherEdge}
 use Rattle.monotone_split.specs.Laws.{EndOfEdge, DoubleEdgeIsChain}
 use Rattle.monotone_split.specs.Laws.EndOfEdge.{StartsAt, EndsAt}
 use Rattle.monotone_split.proofs.Junctions.{join_at_starts, join_at_start_and_end, join_at_end_and_start, join_at_ends}
 use Rattle.monotone_split.proofs.WalkParts.{edge_has}
-use Rattle.monotone_split.proofs.Shortcuts.{no_true}
 
 -- a vertex that starts an edge of a list of vertices is not its last
 start_has : (P : Vertex → Type 0) (w : Vertex) (ws : List Vertex) (c d : Vertex) → EachButLast P (w ∷ ws) → IsEdgeOf w ws c d → P c
@@ -29,7 +29,7 @@ only_edge P v (w ∷ x ∷ xs) c d h (inr e) p q = absurd (p (start_has P w (x �
 -- an edge of chain k has an end x where c is, and may join it there: c is not within chain l
 not_within : (IsEdge : Vertex → Vertex → Type 0) (v : Vertex) (ws : List Vertex) (x c : Vertex)
     → ((a b : Vertex) → IsEdgeOf v ws a b → IsEdge a b) → EndOfEdge v ws x → MayJoin x c → ¬ (IsWithinChain IsEdge c)
-not_within IsEdge v ws x c other end (BothEnd e g) h = no_true c.is_end h.no_end g
+not_within IsEdge v ws x c other end (BothEnd e g) h = denied c.is_end h.no_end g
 not_within IsEdge v ws x c other (StartsAt b edge) (One e) h = h.no_start_of x b (other x b edge) (sym e)
 not_within IsEdge v ws x c other (EndsAt a edge) (One e) h = h.no_end_of a x (other a x edge) (sym e)
 

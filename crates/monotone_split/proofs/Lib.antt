@@ -7,7 +7,6 @@ pub mod EdgeLaws
 pub mod Paths
 pub mod Maps
 pub mod RunsBeside
-pub mod Sides
 pub mod OneSided
 pub mod Arranged
 pub mod Numbers

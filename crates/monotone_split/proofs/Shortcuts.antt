@@ -9,6 +9,7 @@ use Rattle.grid_exact.proofs.Commons.{start_on, end_is_on, meet_at_ends, starts_
 use Rattle.grid_exact.proofs.Commons.AtEnds.{Starts as AtStarts, StartAndEnd as AtStartAndEnd, EndAndStart as AtEndAndStart}
 use Rattle.grid_exact.proofs.Commons.AtEnds.{Ends as AtBothEnds}
 use Rattle.grid_exact.proofs.Commons.Standing.{AtStart as StandsAtStart, AtEnd as StandsAtEnd, Off as StandsOff}
+use Rattle.grid_exact.proofs.Orders.{denied}
 use Rattle.arc_map.specs.Vertices.{Vertex, places, MayJoin, MeetLawfully}
 use Rattle.arc_map.specs.Vertices.MayJoin.{One, BothEnd}
 use Rattle.arc_map.specs.Vertices.IsJunction.{Starts, StartAndEnd, EndAndStart, Ends}
@@ -42,9 +43,6 @@ apart_run v [] w c d at_v at_skipped at_w lawful = (apart_by v w c d at_v at_w l
 apart_run v (k ∷ ks) w c d at_v at_skipped at_w lawful =
     (apart_by v k c d at_v at_skipped.0 lawful.0, apart_run k ks w c d at_skipped.0 at_skipped.1 at_w lawful.1)
 
-pub no_true : (t : Bool) → t ≡ false → IsTrue t → ⊥
-no_true t e h = cc
-
 pub excluded_within : (IsEdge : Vertex → Vertex → Type 0) (c d : Vertex) → IsEdge c d → (skipped : List Vertex)
     → EachOf (IsWithinChain IsEdge) skipped → EachOf (Excludes c d) skipped
 excluded_within IsEdge c d edge [] h = tt
@@ -56,7 +54,7 @@ excluded_within IsEdge c d edge (k ∷ ks) h = (
   where
     joins : (x : Vertex) → MayJoin k x → ¬ (k ≡ x) → ⊥
     joins x (One e) other = other e
-    joins x (BothEnd e f) other = no_true k.is_end h.0.no_end e
+    joins x (BothEnd e f) other = denied k.is_end h.0.no_end e
 
 excluded_off : (c d x : Vertex) → ¬ (x.place ≡ c.place) → ¬ (x.place ≡ d.place) → Excludes c d x
 excluded_off c d x p q = record { start = λ m. p; end = λ m. q }

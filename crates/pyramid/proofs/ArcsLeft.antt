@@ -13,55 +13,21 @@ use Rattle.arc_map.specs.Arcs.{joined_arc, arcs_now}
 use Rattle.arc_map.specs.Arranged.{nowhere}
 use Rattle.arc_map.specs.Chains.{Chain}
 use Rattle.arc_map.specs.Edges.{EachOf}
+use Rattle.arc_map.proofs.Keyed.{other_key}
 use Rattle.monotone_split.proofs.Cuts.{parts_of_arc, parts_of_arcs}
 use Rattle.monotone_split.proofs.Finish.{taken, left_over}
+use Rattle.monotone_split.proofs.ArcVertices.{first_place}
+use Rattle.monotone_split.proofs.Parity.{no_walk}
+use Rattle.monotone_split.proofs.Outcome.{places_from}
 use Rattle.chain_replace.specs.Run.{Terms, NearBy}
 use Rattle.chain_replace.specs.Thinned.{IsThinned}
 use Rattle.chain_replace.proofs.NearPaths.{AreNear, IsNextOf, numbers_of, path_end, path_joined, near_leads, places_left, thinned_by_path}
 use Rattle.chain_replace.proofs.ThinnedChains.{IsLeftOf}
+use Rattle.chain_replace.proofs.ThinnedArcs.{one_dropped, spelled_from, walk_left, LeftParts, left_parts, firsts_left}
 
 -- ---- the vertices of an arc have its places
 
-first_place : (l : List Place) (at : ℕ) (p : Place) (ps : List Place) → drop at l ≡ p ∷ ps → get_or l at nowhere ≡ p
-first_place l at p ps e =
-    let here : at + 0 ≡ at = omega arith in
-    ap (λ (k : ℕ). get_or l k nowhere) (sym here) ∙ sym (get_or-drop at l 0 nowhere) ∙ ap (λ (qs : List Place). get_or qs 0 nowhere) e
-
-one_dropped : (l : List Place) (at : ℕ) (p : Place) (ps : List Place) → drop at l ≡ p ∷ ps → drop (suc at) l ≡ ps
-one_dropped l at p ps e = ap (λ (k : ℕ). drop k l) (sym (add-one at)) ∙ sym (drop-drop 1 at l) ∙ ap (λ (qs : List Place). drop 1 qs) e
-
-spelled_from : (arc at : ℕ) (whole : List Place) (v : Vertex) (p : Place) (ps : List Place) → v.at ≡ at → drop at whole ≡ p ∷ ps
-    → EachEdge (IsNextOf whole) v (vertices_from arc (suc at) ps)
-spelled_from arc at whole v p [] same rest = tt
-spelled_from arc at whole v p (q ∷ []) same rest =
-    ((ap suc (sym same), sym (first_place whole (suc at) q [] (one_dropped whole at p (q ∷ []) rest))), tt)
-spelled_from arc at whole v p (q ∷ r ∷ rs) same rest =
-    let next = one_dropped whole at p (q ∷ r ∷ rs) rest in (
-      (ap suc (sym same), sym (first_place whole (suc at) q (r ∷ rs) next)),
-      spelled_from arc (suc at) whole (vertex arc (suc at) false q) q
-          (r ∷ rs) refl next,
-    )
-
-places_from : (arc at : ℕ) (ps : List Place) → places (vertices_from arc at ps) ≡ ps
-places_from arc at [] = refl
-places_from arc at (p ∷ []) = refl
-places_from arc at (p ∷ q ∷ qs) = ap (λ (xs : List Place). p ∷ xs) (places_from arc (suc at) (q ∷ qs))
-
 -- ---- the walk that is left
-
-walk_left : (t : Terms) (v : Vertex) (ws : List Vertex) (ks ls : List Chain) → IsCutInto v ws ks → AllZip (IsLeftOf t) ks ls
-    → IsPath (AreNear (NearBy t)) v ws (joined_rests ls)
-walk_left t v ws [] [] cut left = cut
-walk_left t v ws [] (l ∷ ls) cut left = absurd left
-walk_left t v ws (k ∷ ks) [] cut left = absurd left
-walk_left t v ws (k ∷ ks) (l ∷ ls) cut left =
-    let here : IsPath (AreNear (NearBy t)) v k.rest l.rest = subst (λ (x : Vertex). IsPath (AreNear (NearBy t)) x k.rest l.rest) cut.0
-    left.0.path in
-    let later = walk_left t (end_of v k.rest) cut.2 ks ls cut.4 left.1 in
-    let later' = subst (λ (x : Vertex). IsPath (AreNear (NearBy t)) x cut.2 (joined_rests ls))
-    (sym (path_end (NearBy t) v k.rest l.rest here)) later in
-    subst (λ (xs : List Vertex). IsPath (AreNear (NearBy t)) v xs (l.rest ++ joined_rests ls)) (sym cut.3)
-    (path_joined (NearBy t) v k.rest l.rest cut.2 (joined_rests ls) here later')
 
 -- ---- one arc
 
@@ -82,10 +48,6 @@ walk_is_left t arc p ps ws k ks l ls whole spelled cut left =
     let size : length (p ∷ ps) ≡ 0 + length ws + 1 = omega (arith, ap length whole, length-map ws (λ (x : Vertex). x.place)) in
     thinned_by_path (NearBy t) (p ∷ ps) (l.first.place ∷ places us) (0 + length ws) (numbers_of us) size
     (near_leads (NearBy t) (p ∷ ps) v ws us refl spelled path) after
-
-no_walk : (arc : ℕ) (q : Place) (qs : List Place) → vertices_from arc 1 (q ∷ qs) ≡ [] → ⊥
-no_walk arc q [] e = cc
-no_walk arc q (r ∷ rs) e = cc
 
 one_place : (t : Terms) (arc : ℕ) (p : Place) → IsLeftAt t (p ∷ []) (p ∷ []) []
 one_place t arc p =
@@ -109,9 +71,6 @@ arc_is_left t arc (p ∷ q ∷ qs) (k ∷ ks) (l ∷ ls) some cut left =
 pub same_test : (m n : ℕ) → m ≡ n → (m == n) ≡ true
 same_test m n e = grind (arith, nat_tests)
 
-pub other_test : (m n : ℕ) → (m ≡ n → ⊥) → (m == n) ≡ false
-other_test m n h = grind (arith, nat_tests)
-
 abbrev pub of_arc : ℕ → List Chain → List Chain
 of_arc arc ks = filter (λ (k : Chain). k.first.arc == arc) ks
 
@@ -120,7 +79,7 @@ of_here : (arc : ℕ) (here later : List Chain) → EachOf (λ k. k.first.arc �
 of_here arc [] [] h k = refl
 of_here arc [] (x ∷ xs) h k =
     let past = k.0 in
-    ap (λ (t : Bool). cond t (x ∷ of_arc arc xs) (of_arc arc xs)) (other_test x.first.arc arc (λ e. absurd (omega arith)))
+    ap (λ (t : Bool). cond t (x ∷ of_arc arc xs) (of_arc arc xs)) (other_key x.first.arc arc (λ e. absurd (omega arith)))
     ∙ of_here arc [] xs tt k.1
 of_here arc (x ∷ xs) later h k = ap (λ (t : Bool). cond t (x ∷ of_arc arc (xs ++ later)) (of_arc arc (xs ++ later)))
     (same_test x.first.arc arc h.0) ∙ ap (λ (ys : List Chain). x ∷ ys) (of_here arc xs later h.1 k)
@@ -130,38 +89,10 @@ of_later : (arc at : ℕ) (here later : List Chain) → arc < at → EachOf (λ 
 of_later arc at [] later past h = refl
 of_later arc at (x ∷ xs) later past h =
     let is = h.0 in
-    ap (λ (t : Bool). cond t (x ∷ of_arc at (xs ++ later)) (of_arc at (xs ++ later)))
-    (other_test x.first.arc at (λ e. absurd (omega arith))) ∙ of_later arc at xs later past h.1
+    ap (λ (t : Bool). cond t (x ∷ of_arc at (xs ++ later)) (of_arc at (xs ++ later))) (other_key x.first.arc at (λ e. absurd (omega arith)))
+    ∙ of_later arc at xs later past h.1
 
 -- ---- all arcs
-
-record LeftParts (t : Terms) (here later ls : List Chain) : Type 0 where
-  first : List Chain
-  second : List Chain
-  whole : ls ≡ first ++ second
-  first_left : AllZip (IsLeftOf t) here first
-  second_left : AllZip (IsLeftOf t) later second
-
-left_parts : (t : Terms) (here later ls : List Chain) → AllZip (IsLeftOf t) (here ++ later) ls → LeftParts t here later ls
-left_parts t [] later ls left = record { first = []; second = ls; whole = refl; first_left = tt; second_left = left }
-left_parts t (k ∷ ks) later [] left = absurd left
-left_parts t (k ∷ ks) later (l ∷ ls) left =
-    let rest = left_parts t ks later ls left.1 in
-    record {
-      first = l ∷ rest.first;
-      second = rest.second;
-      whole = ap (λ (xs : List Chain). l ∷ xs) rest.whole;
-      first_left =
-          (left.0, rest.first_left);
-      second_left = rest.second_left;
-    }
-
-firsts_left : (t : Terms) (P : Vertex → Type 0) (ks ls : List Chain) → EachOf (λ k. P k.first) ks → AllZip (IsLeftOf t) ks ls
-    → EachOf (λ l. P l.first) ls
-firsts_left t P [] [] each left = tt
-firsts_left t P [] (l ∷ ls) each left = absurd left
-firsts_left t P (k ∷ ks) [] each left = absurd left
-firsts_left t P (k ∷ ks) (l ∷ ls) each left = (subst P (sym left.0.first) each.0, firsts_left t P ks ls each.1 left.1)
 
 arc_of_parts : (t : Terms) (arc : ℕ) (ps : List Place) (pss : List (List Place)) (here later first second : List Chain)
     → IsListCutInto (vertices_from arc 0 ps) here → EachOf (λ k. suc arc ≤ k.first.arc) later → AllZip (IsLeftOf t) here first

@@ -11,11 +11,12 @@ use Rattle.std.proofs.lemmas.List.FromFn.{length-range_with_len}
 use Rattle.grid_exact.specs.Geometry.{Place}
 use Rattle.arc_map.specs.Map.{Map}
 use Rattle.arc_map.specs.Arranged.{arc_at, nowhere, position_at}
+use Rattle.arc_map.proofs.Rising.{rising_is_one}
 use Rattle.sweep_index.proofs.Holding.{filter_holds}
 use Rattle.chain_replace.specs.Thinned.{place_at}
 use Rattle.pyramid.specs.Levels.{Level, places_of_rank, TellsLevel, AreRanks}
 use Rattle.pyramid.specs.UnderWay.{ArePlaces, IsReached, IsUpTo}
-use Rattle.pyramid.proofs.Rising.{at-place, contains-at, range-at, range-rises, in-range, rising_is_one}
+use Rattle.pyramid.proofs.Rising.{at-place, contains-at, range-at, range-rises, in-range}
 use Rattle.pyramid.proofs.Stepping.{place-within}
 
 -- ---- the places of a rank or more

@@ -11,6 +11,7 @@ use Rattle.grid_exact.specs.Weights.{Scales}
 use Rattle.arc_map.specs.Map.{Map, IsMap, IsArc}
 use Rattle.arc_map.specs.Arranged.{IsArranged, arc_at}
 use Rattle.arc_map.specs.Records.{Record}
+use Rattle.arc_map.proofs.Finishing.{has_position}
 use Rattle.arrangement_check.specs.Partly.{Holding}
 use Rattle.chain_replace.specs.Run.{IsOutcome}
 use Rattle.chain_replace.specs.Laws.{KeepsFaces}
@@ -148,10 +149,6 @@ next-come m bounds k number bound old new after records numbered by come outcome
 
 -- ---- level 0
 
-is-some : (ps : List Place) → IsArc ps → 0 < length ps
-is-some [] is = absurd is
-is-some (p ∷ ps) is = omega arith
-
 pub start-come : (m one two : Map) (bounds : List ℤ) (level : Level) → one ≡ m → two ≡ m → IsMap one → IsArranged m → level.map ≡ m
     → length level.places.items ≡ length one.arcs → ((arc : ℕ) → arc < length one.arcs
     → list_of level.places.items arc ≡ range_with_len 0 (length (arc_at one arc))) → length level.ranks.items ≡ length two.arcs
@@ -164,7 +161,7 @@ start-come m one two bounds level first second is_map arranged made count places
     record {
       count = count ∙ few;
       up_to = start m bounds (lists_of level.ranks.items) (level_in level) arranged (λ arc below.
-          is-some (arc_at m arc) (All-get_or IsArc m.arcs arc [] below is.arcs)) made
+          has_position (arc_at m arc) (All-get_or IsArc m.arcs arc [] below is.arcs)) made
           (λ arc below. places arc (omega arith) ∙ ap (λ (n : Map). range_with_len 0 (length (arc_at n arc))) first)
           (length-map level.ranks.items (λ (v : Vec ℕ). v.items) ∙ ranks ∙ few')
           (λ arc below. long arc (omega arith) ∙ ap (λ (n : Map). length (arc_at n arc)) second)

@@ -10,9 +10,10 @@ use Rattle.std.proofs.lemmas.List.{get_or-set_other, get_or_append_left, get_or_
 use Rattle.std.proofs.lemmas.List.Concat.{flat_map-append}
 use Rattle.std.proofs.lemmas.List.Elements.{filter_more, Contains-push, Contains-push_cases, Contains-append_left}
 use Rattle.arc_map.specs.Records.{Record}
+use Rattle.arc_map.proofs.Keyed.{other_key}
 use Rattle.pyramid.specs.Levels.{kept_of, later_places}
 use Rattle.pyramid.specs.Places.{lists_of, list_of, AreRaised}
-use Rattle.pyramid.proofs.ArcsLeft.{same_test, other_test}
+use Rattle.pyramid.proofs.ArcsLeft.{same_test}
 
 -- the list that was read
 pub list-at : (lists : List (Vec ℕ)) (k : ℕ) (v : Vec ℕ) → k < length lists → v ≡ get_or lists k v → list_of lists k ≡ v.items
@@ -89,7 +90,7 @@ kept-other : (records : List Record) (k arc : ℕ) (r : Record) → k < length r
     → kept_of (take (k + 1) records) arc ≡ kept_of (take k records) arc
 kept-other records k arc r below here other =
     kept-next records k arc r below here
-    ∙ ap (λ (b : Bool). kept_of (take k records) arc ++ cond b (later_places r) []) (other_test r.arc arc other)
+    ∙ ap (λ (b : Bool). kept_of (take k records) arc ++ cond b (later_places r) []) (other_key r.arc arc other)
     ∙ append-nil (kept_of (take k records) arc)
 
 map-later : (f : ℕ → ℕ) (n : ℕ) (ks : List ℕ) → map f (map (λ i. n + i) ks) ≡ map (λ i. f (n + i)) ks

@@ -1,16 +1,19 @@
 -- A way between two limits is within the bound of the vertex that they stand for, and the tighter of two limits stands for both.
-use Rattle.std.proofs.Common.{◌≡◌, inl, inr, true, ℕ, ◌+◌, List, ℤ, pos, ◌+ℤ◌, ◌-ℤ◌, ◌*ℤ◌, ◌≤ℤ◌, ◌<ℤ◌, refl, sym, ap, subst, ◌∙◌, arith}
+use Rattle.std.proofs.Common.{◌≡◌, inl, inr, Bool, true, false, ℕ, ◌+◌, List, ℤ, pos, ◌+ℤ◌, ◌-ℤ◌, ◌*ℤ◌, ◌≤ℤ◌, ◌<ℤ◌, refl, sym, ap, subst}
+use Rattle.std.proofs.Common.{◌∙◌, arith}
 use Rattle.std.proofs.lemmas.Bool.{cases_lt}
 use Rattle.grid_exact.specs.Geometry.{Place, turned, area_of, square_of, IsWithin}
+use Rattle.grid_exact.specs.declared.frame.Direction.{Direction}
+use Rattle.grid_exact.specs.declared.frame.Frame.{Frame}
+use Rattle.grid_exact.specs.declared.frame.Frame.TheVariants.{Plain, Turned}
 use Rattle.grid_exact.proofs.WholeLaws.{sums}
 use Rattle.grid_exact.proofs.Signs.{times_nonnegative, nonnegative_from_times}
 use Rattle.grid_exact.proofs.Polynomial.{Whole, ◌⊕◌, ◌⊖◌, ◌⊗◌, ◌≈◌, identity_5, identity_6}
 use Rattle.lane_kernels.specs.Places.{place_at}
 use Rattle.side_wedge.proofs.Rays.{area_swapped}
-use Rattle.shortcut_graph.specs.declared.corridor.Heading.{Heading}
-use Rattle.shortcut_graph.specs.declared.corridor.Heading.TheVariants.{East, North, West, South}
 use Rattle.shortcut_graph.specs.declared.corridor.Corridor.{Corridor}
-use Rattle.shortcut_graph.specs.Corridor.{mirrored, seen_along, IsLowerLimit, IsUpperLimit, IsPastOrigin, KeepsTo, IsCorridor}
+use Rattle.shortcut_graph.specs.Corridor.{laid_across, made_rise, mirrored, seen_along, IsLowerLimit, IsUpperLimit, IsPastOrigin, KeepsTo}
+use Rattle.shortcut_graph.specs.Corridor.{IsCorridor}
 
 -- ---- the tighter of two limits
 
@@ -123,7 +126,7 @@ near_origin o v p e h =
           omega (arith, sums, across, up);
     }
 
--- ---- as it is seen along a heading, and as it is
+-- ---- as it is seen along a direction, and as it is
 
 mirrored_across : (n s o v p : ℤ) → square_of (n *ℤ ((pos 0 -ℤ p) -ℤ (pos 0 -ℤ o)) -ℤ s *ℤ ((pos 0 -ℤ v) -ℤ (pos 0 -ℤ o)))
     ≡ square_of (n *ℤ (p -ℤ o) -ℤ s *ℤ (v -ℤ o))
@@ -159,12 +162,21 @@ within_turned o v p e h =
           omega (arith, sums);
     }
 
-pub within_as_seen : (heading : Heading) (o v p : Place) (e : ℤ)
-    → IsWithin (seen_along heading o) (seen_along heading v) (seen_along heading p) e → IsWithin o v p e
-within_as_seen East o v p e h = h
-within_as_seen North o v p e h = within_turned o v p e h
-within_as_seen West o v p e h = within_mirrored o v p e h
-within_as_seen South o v p e h = within_turned o v p e (within_mirrored (turned o) (turned v) (turned p) e h)
+within_laid : (frame : Frame) (o v p : Place) (e : ℤ) → IsWithin (laid_across frame o) (laid_across frame v) (laid_across frame p) e
+    → IsWithin o v p e
+within_laid Plain o v p e h = h
+within_laid Turned o v p e h = within_turned o v p e h
+
+within_risen : (rising : Bool) (o v p : Place) (e : ℤ) → IsWithin (made_rise rising o) (made_rise rising v) (made_rise rising p) e
+    → IsWithin o v p e
+within_risen true o v p e h = h
+within_risen false o v p e h = within_mirrored o v p e h
+
+pub within_as_seen : (direction : Direction) (o v p : Place) (e : ℤ)
+    → IsWithin (seen_along direction o) (seen_along direction v) (seen_along direction p) e → IsWithin o v p e
+within_as_seen direction o v p e h =
+    let frame = direction.frame in
+    within_laid frame o v p e (within_risen direction.rising (laid_across frame o) (laid_across frame v) (laid_across frame p) e h)
 
 -- ---- the ways of two corridors
 
@@ -191,41 +203,42 @@ both_keep a b d same origin passable other_passable past lower upper reach other
 
 -- ---- one vertex, and one vertex more
 
-pub no_vertex : (c : Corridor) (xs ys : List ℤ) (bound : ℤ) (i : ℕ) (heading : Heading) (o : Place) → c.heading ≡ heading → c.origin ≡ o
-    → o ≡ seen_along heading (place_at xs ys i) → (c.is_passable ≡ true → IsPastOrigin c) → IsCorridor c xs ys bound i (i + 1)
-no_vertex c xs ys bound i heading o same origin start past =
+pub no_vertex : (c : Corridor) (xs ys : List ℤ) (bound : ℤ) (i : ℕ) (direction : Direction) (o : Place) → c.direction ≡ direction
+    → c.origin ≡ o → o ≡ seen_along direction (place_at xs ys i) → (c.is_passable ≡ true → IsPastOrigin c)
+    → IsCorridor c xs ys bound i (i + 1)
+no_vertex c xs ys bound i direction o same origin start past =
     record {
-      origin = origin ∙ start ∙ ap (λ (g : Heading). seen_along g (place_at xs ys i)) (sym same);
+      origin = origin ∙ start ∙ ap (λ (g : Direction). seen_along g (place_at xs ys i)) (sym same);
       past = past;
       near = λ v keeps k low high. absurd (omega arith);
     }
 
-pub one_more : (c d : Corridor) (xs ys : List ℤ) (bound : ℤ) (i j : ℕ) → d.heading ≡ c.heading → d.origin ≡ c.origin
+pub one_more : (c d : Corridor) (xs ys : List ℤ) (bound : ℤ) (i j : ℕ) → d.direction ≡ c.direction → d.origin ≡ c.origin
     → (d.is_passable ≡ true → IsPastOrigin d)
-    → ((v : Place) → KeepsTo d v → KeepsTo c v × IsWithin c.origin v (seen_along c.heading (place_at xs ys j)) bound)
+    → ((v : Place) → KeepsTo d v → KeepsTo c v × IsWithin c.origin v (seen_along c.direction (place_at xs ys j)) bound)
     → IsCorridor c xs ys bound i j → IsCorridor d xs ys bound i (j + 1)
-one_more c d xs ys bound i j heading origin past near corridor =
+one_more c d xs ys bound i j direction origin past near corridor =
     record {
-      origin = origin ∙ corridor.origin ∙ ap (λ (g : Heading). seen_along g (place_at xs ys i)) (sym heading);
+      origin = origin ∙ corridor.origin ∙ ap (λ (g : Direction). seen_along g (place_at xs ys i)) (sym direction);
       past = past;
       near = λ v keeps k low high.
-          let both = near (seen_along c.heading v) (subst (λ (g : Heading). KeepsTo d (seen_along g v)) heading keeps) in
+          let both = near (seen_along c.direction v) (subst (λ (g : Direction). KeepsTo d (seen_along g v)) direction keeps) in
           elim (cases_lt k j) [
             | inl below ↦ corridor.near v both.0 k low below
             | inr up ↦
                 let same : j ≡ k = omega arith in
-                let seen : IsWithin (seen_along c.heading (place_at xs ys i)) (seen_along c.heading v)
-                (seen_along c.heading (place_at xs ys j)) bound
-                = subst (λ (o : Place). IsWithin o (seen_along c.heading v) (seen_along c.heading (place_at xs ys j)) bound) corridor.origin
-                both.1 in
+                let seen : IsWithin (seen_along c.direction (place_at xs ys i)) (seen_along c.direction v)
+                (seen_along c.direction (place_at xs ys j)) bound
+                = subst (λ (o : Place). IsWithin o (seen_along c.direction v) (seen_along c.direction (place_at xs ys j)) bound)
+                corridor.origin both.1 in
                 subst (λ (n : ℕ). IsWithin (place_at xs ys i) v (place_at xs ys n) bound) same
-                (within_as_seen c.heading (place_at xs ys i) v (place_at xs ys j) bound seen)
+                (within_as_seen c.direction (place_at xs ys i) v (place_at xs ys j) bound seen)
           ];
     }
 
 -- one vertex more that is near the origin
 pub one_beside : (c : Corridor) (xs ys : List ℤ) (bound : ℤ) (i j : ℕ)
-    → IsWithin c.origin c.origin (seen_along c.heading (place_at xs ys j)) bound → IsCorridor c xs ys bound i j
+    → IsWithin c.origin c.origin (seen_along c.direction (place_at xs ys j)) bound → IsCorridor c xs ys bound i j
     → IsCorridor c xs ys bound i (j + 1)
 one_beside c xs ys bound i j beside corridor =
     record {
@@ -235,10 +248,10 @@ one_beside c xs ys bound i j beside corridor =
         | inl before ↦ corridor.near v keeps k low before
         | inr up ↦
             let same : j ≡ k = omega arith in
-            let start = seen_along c.heading (place_at xs ys i) in
-            let here = subst (λ (o : Place). IsWithin o o (seen_along c.heading (place_at xs ys j)) bound) corridor.origin beside in
-            let seen = near_origin start (seen_along c.heading v) (seen_along c.heading (place_at xs ys j)) bound here in
+            let start = seen_along c.direction (place_at xs ys i) in
+            let here = subst (λ (o : Place). IsWithin o o (seen_along c.direction (place_at xs ys j)) bound) corridor.origin beside in
+            let seen = near_origin start (seen_along c.direction v) (seen_along c.direction (place_at xs ys j)) bound here in
             subst (λ (n : ℕ). IsWithin (place_at xs ys i) v (place_at xs ys n) bound) same
-            (within_as_seen c.heading (place_at xs ys i) v (place_at xs ys j) bound seen)
+            (within_as_seen c.direction (place_at xs ys i) v (place_at xs ys j) bound seen)
       ];
     }

@@ -11,11 +11,13 @@ use Rattle.arc_map.specs.Vertices.MayJoin.{One, BothEnd}
 use Rattle.arc_map.specs.Clear.{IsWithinChain}
 use Rattle.arc_map.specs.Chains.{Chain, no_chain, chain_at, chain_places, AreChains, IsClearIn, IsOtherEdge}
 use Rattle.arc_map.specs.Paths.{vertex_at}
+use Rattle.arc_map.proofs.Chained.{chain_is_known}
 use Rattle.monotone_split.proofs.Doubles.{double_edge_is_chain}
 use Rattle.monotone_split.proofs.Junctions.{join_at_starts, join_at_start_and_end}
 use Rattle.monotone_split.proofs.WalkParts.{edge_has}
+use Rattle.side_wedge.proofs.ClearOf.{edge_numbered}
 use Rattle.shortcut_graph.specs.Doubles.{HasDoubleEdge, AreEndsOf, IsDoubled}
-use Rattle.shortcut_graph.proofs.Numbers.{edge_at, but_last_at, end_at}
+use Rattle.shortcut_graph.proofs.Numbers.{but_last_at, end_at}
 
 not_both : (v : Vertex) → v.is_end ≡ false → IsTrue v.is_end → ⊥
 not_both v e h = cc
@@ -39,7 +41,7 @@ inner_apart chains points k (suc i) c d are clear other low high =
     let apart = no_join (IsOtherEdge chains k) x c d (but_last_at (IsWithinChain (IsOtherEdge chains k)) chain.rest i chain.first
     (are.within k) high) other in
     let lawful = edge_has (λ a b. MeetLawfully a b c d) chain.first chain.rest x y (clear.others c d other)
-    (edge_at chain.first chain.rest (suc i) chain.first high) in
+    (edge_numbered chain.first chain.rest (suc i) chain.first high) in
     (λ e. apart.0 (join_at_starts x y c d lawful e), λ e. apart.1 (join_at_start_and_end x y c d lawful e))
 
 pub only_at_ends : (chains : List Chain) (points : List Place) (k i j : ℕ) → AreChains chains → IsClearIn chains points k → i < j
@@ -58,14 +60,6 @@ only_at_ends chains points k i j are clear ij jm double = (
 )
 
 -- ---- the chain of a double edge
-
-has_number : (chains : List Chain) (l : ℕ) (c d : Vertex) → IsEdgeOf (chain_at chains l).first (chain_at chains l).rest c d
-    → l < length chains
-has_number chains l c d edge =
-    elim (cases_lt l (length chains)) [
-      | inl h ↦ h
-      | inr h ↦ absurd (subst (λ (k : Chain). IsEdgeOf k.first k.rest c d) (get_or_past chains l no_chain h) edge)
-    ]
 
 one_edge : (k : Chain) (c d : Vertex) → IsEdgeOf k.first k.rest c d → k.rest ≡ d ∷ [] → chain_places k ≡ c.place ∷ d.place ∷ []
 one_edge k c d edge only =
@@ -101,7 +95,7 @@ doubled chains points k are clear some double =
     let l = double.edge.chain in
     record {
       chain = l;
-      within = has_number chains l double.start double.end double.edge.edge;
+      within = chain_is_known chains l double.start double.end double.edge.edge;
       twin = record {
         other = double.edge.other;
         edge = ends_of (vertex_at chain 0).place (vertex_at chain (length chain.rest)).place double.start.place double.end.place

@@ -10,6 +10,7 @@ use Rattle.arc_map.specs.Paths.{vertices_of, vertex_at}
 use Rattle.arc_map.specs.Arranged.{nowhere}
 use Rattle.monotone_split.specs.Laws.{EndOfEdge}
 use Rattle.monotone_split.specs.Laws.EndOfEdge.{StartsAt, EndsAt}
+use Rattle.side_wedge.proofs.ClearOf.{edge_numbered}
 
 -- the places of a chain are one more than its vertices after the first
 pub length-chain_places : (c : Chain) → length (chain_places c) ≡ suc (length c.rest)
@@ -33,12 +34,6 @@ last_read c ps p e read =
     ∙ ap (λ (qs : List Place). get_or qs (length c.rest) nowhere) e
     ∙ place-number c (length c.rest) (omega arith)
 
--- the edge number i of a walk
-pub edge_at : {A : Type 0} (v : A) (ws : List A) (i : ℕ) (d : A) → i < length ws → IsEdgeOf v ws (get_or (v ∷ ws) i d) (get_or ws i d)
-edge_at v [] i d h = absurd (omega arith)
-edge_at v (w ∷ ws) zero d h = inl (refl, refl)
-edge_at v (w ∷ ws) (suc i) d h = inr (edge_at w ws i d (omega arith))
-
 pub but_last_at : (P : Vertex → Type 0) (ws : List Vertex) (i : ℕ) (d : Vertex) → EachButLast P ws → suc i < length ws → P (get_or ws i d)
 but_last_at P [] i d each h = absurd (omega arith)
 but_last_at P (v ∷ []) i d each h = absurd (omega arith)
@@ -47,5 +42,5 @@ but_last_at P (v ∷ w ∷ ws) (suc i) d each h = but_last_at P (w ∷ ws) i d e
 
 -- each vertex of a walk with an edge is an end of one
 pub end_at : (v : Vertex) (ws : List Vertex) (i : ℕ) (d : Vertex) → 0 < length ws → i ≤ length ws → EndOfEdge v ws (get_or (v ∷ ws) i d)
-end_at v ws zero d some h = StartsAt (get_or ws 0 d) (edge_at v ws 0 d some)
-end_at v ws (suc i) d some h = EndsAt (get_or (v ∷ ws) i d) (edge_at v ws i d (omega arith))
+end_at v ws zero d some h = StartsAt (get_or ws 0 d) (edge_numbered v ws 0 d some)
+end_at v ws (suc i) d some h = EndsAt (get_or (v ∷ ws) i d) (edge_numbered v ws i d (omega arith))

@@ -1,21 +1,29 @@
 -- The ways from a vertex of a chain that keep within the bound of each vertex after it.
-use Rattle.std.specs.Prelude.{◌≡◌, true, ℕ, ◌+◌, ℤ, pos, ◌-ℤ◌, ◌≤ℤ◌, ◌<ℤ◌, List}
+use Rattle.std.specs.Prelude.{◌≡◌, Bool, true, false, ℕ, ◌+◌, ℤ, pos, ◌-ℤ◌, ◌≤ℤ◌, ◌<ℤ◌, List}
 use Rattle.grid_exact.specs.Geometry.{Place, turned, area_of, IsWithin}
+use Rattle.grid_exact.specs.declared.frame.Direction.{Direction}
+use Rattle.grid_exact.specs.declared.frame.Frame.{Frame}
+use Rattle.grid_exact.specs.declared.frame.Frame.TheVariants.{Plain, Turned}
 use Rattle.lane_kernels.specs.Places.{EachBetween, place_at}
-use Rattle.shortcut_graph.specs.declared.corridor.Heading.{Heading}
-use Rattle.shortcut_graph.specs.declared.corridor.Heading.TheVariants.{East, North, West, South}
 use Rattle.shortcut_graph.specs.declared.corridor.Corridor.{Corridor}
 
 -- the place seen in a mirror that stands upright
 abbrev pub mirrored : Place → Place
 mirrored p = record { x = pos 0 -ℤ p.x; y = p.y }
 
--- the place as it is seen where the heading is taken for the way across
-abbrev pub seen_along : Heading → Place → Place
-seen_along East p = p
-seen_along North p = turned p
-seen_along West p = mirrored p
-seen_along South p = mirrored (turned p)
+-- the place with the axis of the frame for the way across
+abbrev pub laid_across : Frame → Place → Place
+laid_across Plain p = p
+laid_across Turned p = turned p
+
+-- the place where the way across rises, or else in a mirror
+abbrev pub made_rise : Bool → Place → Place
+made_rise true p = p
+made_rise false p = mirrored p
+
+-- the place as it is seen where the direction is taken for the way across
+abbrev pub seen_along : Direction → Place → Place
+seen_along direction p = made_rise direction.rising (laid_across direction.frame p)
 
 -- r is past the origin, and a way that goes no higher than r goes no higher than p and q
 pub record IsLowerLimit (origin p q r : Place) : Type 0 where
@@ -43,6 +51,6 @@ pub record KeepsTo (c : Corridor) (v : Place) : Type 0 where
 -- the corridor from the vertex i stands for the vertices after it and before the vertex j: a way that keeps to it is within the
 -- bound of each
 pub record IsCorridor (c : Corridor) (xs ys : List ℤ) (bound : ℤ) (i j : ℕ) : Type 0 where
-  pub origin : c.origin ≡ seen_along c.heading (place_at xs ys i)
+  pub origin : c.origin ≡ seen_along c.direction (place_at xs ys i)
   pub past : c.is_passable ≡ true → IsPastOrigin c
-  pub near : (v : Place) → KeepsTo c (seen_along c.heading v) → EachBetween (i + 1) j (λ p. IsWithin (place_at xs ys i) v p bound) xs ys
+  pub near : (v : Place) → KeepsTo c (seen_along c.direction v) → EachBetween (i + 1) j (λ p. IsWithin (place_at xs ys i) v p bound) xs ys

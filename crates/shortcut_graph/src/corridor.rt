@@ -7,24 +7,12 @@ ghost use Rattle.std.specs.Prelude.{◌≡◌, ◌↔◌, ◌+◌, ◌<◌, ℕ,
 ghost use Rattle.std.specs.Prelude.{pos, ◌+ℤ◌, ◌-ℤ◌, ◌≤ℤ◌, ◌<ℤ◌};
 ghost use Rattle.grid_exact.specs.Geometry.{Place, turned, IsGridNumber, IsWithin};
 ghost use Rattle.lane_kernels.specs.Places.{AreCoordinates, place_at};
-ghost use Rattle.shortcut_graph.specs.Corridor.{mirrored, seen_along, IsLowerLimit, IsUpperLimit};
+ghost use Rattle.shortcut_graph.specs.Corridor.{laid_across, mirrored, seen_along};
+ghost use Rattle.shortcut_graph.specs.Corridor.{IsLowerLimit, IsUpperLimit};
 
 use crate::ruler::Ruler;
-use grid_exact::{Bound, MAX_COORDINATE, Point, area, within};
+use grid_exact::{Bound, Direction, Frame, MAX_COORDINATE, Point, area, within};
 use lane_kernels::point_at;
-
-/// The axis and the direction along which a corridor runs.
-#[derive(Clone, Copy)]
-pub(crate) enum Heading {
-    /// across, rising
-    East,
-    /// up, rising
-    North,
-    /// across, falling
-    West,
-    /// up, falling
-    South,
-}
 
 // A place that no way may pass on its far side, and the vertex that it stands for.
 #[derive(Clone, Copy)]
@@ -34,10 +22,10 @@ pub(crate) struct Limit {
 }
 
 /// The ways from an origin that keep within the bound of the vertices taken so far. All places are
-/// as seen along the heading.
+/// as seen along the direction.
 #[derive(Clone, Copy)]
 pub(crate) struct Corridor {
-    pub(crate) heading: Heading,
+    pub(crate) direction: Direction,
     /// the vertex where all ways start
     pub(crate) origin: Point,
     /// the lowest place that ways must not pass above
@@ -70,31 +58,41 @@ fn turn(place: Point) -> Point
     }
 }
 
-// The place as it is seen where the heading is taken for the way across.
-fn look(heading: Heading, place: Point) -> Point
-    ensures { result ≡ seen_along heading place }
+// The place with the axis of the frame for the way across.
+fn lay_across(frame: Frame, place: Point) -> Point
+    ensures { result ≡ laid_across frame place }
 {
-    match heading {
-        Heading::East => place,
-        Heading::North => turn(place),
-        Heading::West => mirror(place),
-        Heading::South => mirror(turn(place)),
+    match frame {
+        Frame::Plain => place,
+        Frame::Turned => turn(place),
     }
 }
 
-/// The heading of a chain: the axis along which it gets on farther, and whether it rises or falls
-/// there. A corridor is right along any heading, but lets more ways along this one.
-pub(crate) fn heading_of(ruler: &Ruler<'_>) -> Heading {
-    if progress(ruler.xs) < progress(ruler.ys) {
-        if is_rising(ruler.ys) {
-            Heading::North
-        } else {
-            Heading::South
-        }
-    } else if is_rising(ruler.xs) {
-        Heading::East
+// The place as it is seen where the direction is taken for the way across.
+fn look(direction: Direction, place: Point) -> Point
+    ensures { result ≡ seen_along direction place }
+{
+    let across = lay_across(direction.frame, place);
+    if direction.rising {
+        across
     } else {
-        Heading::West
+        mirror(across)
+    }
+}
+
+/// The direction of a chain: the axis along which it gets on farther, and whether it rises or falls
+/// there. A corridor is right along any direction, but lets more ways along this one.
+pub(crate) fn direction_of(ruler: &Ruler<'_>) -> Direction {
+    if progress(ruler.xs) < progress(ruler.ys) {
+        Direction {
+            frame: Frame::Turned,
+            rising: is_rising(ruler.ys),
+        }
+    } else {
+        Direction {
+            frame: Frame::Plain,
+            rising: is_rising(ruler.xs),
+        }
     }
 }
 
@@ -190,27 +188,27 @@ fn upper_of(origin: Point, a: Limit, b: Limit) -> Limit
 impl Corridor {
     ghost use Rattle.shortcut_graph.specs.Corridor.{IsPastOrigin, KeepsTo, IsCorridor};
 
-    /// The corridor from the vertex `start` along the heading. It stands for no vertex yet.
-    pub(crate) fn start(ruler: &Ruler<'_>, heading: Heading, start: usize) -> Corridor
+    /// The corridor from the vertex `start` along the direction. It stands for no vertex yet.
+    pub(crate) fn start(ruler: &Ruler<'_>, direction: Direction, start: usize) -> Corridor
         requires coordinates { AreCoordinates ruler.now.xs.now ruler.now.ys.now }
         requires in_lists { start < length ruler.now.xs.now }
         ensures { IsCorridor result ruler.now.xs.now ruler.now.ys.now ruler.now.bound start
             (start + 1) }
     {
         let from = point_at(ruler.xs, ruler.ys, start);
-        Corridor::wide(heading, look(heading, from), start)
+        Corridor::wide(direction, look(direction, from), start)
     }
 
     // The corridor of all ways from an origin, the place of this vertex. Its limits are those of
     // the grid.
-    fn wide(heading: Heading, origin: Point, vertex: usize) -> Corridor
-        ensures heading { result.heading ≡ heading }
+    fn wide(direction: Direction, origin: Point, vertex: usize) -> Corridor
+        ensures direction { result.direction ≡ direction }
         ensures origin { result.origin ≡ origin }
         ensures past { result.is_passable ≡ true → IsPastOrigin result }
     {
         let ahead = (origin.x() + 1).min(MAX_COORDINATE);
         Corridor {
-            heading,
+            direction,
             origin,
             ceiling: Limit {
                 place: grid_point(ahead, MAX_COORDINATE),
@@ -226,14 +224,20 @@ impl Corridor {
     }
 
     // The corridor from an origin that stands for one vertex at this place.
-    fn past(heading: Heading, origin: Point, place: Point, vertex: usize, bound: Bound) -> Corridor
-        ensures heading { result.heading ≡ heading }
+    fn past(
+        direction: Direction,
+        origin: Point,
+        place: Point,
+        vertex: usize,
+        bound: Bound,
+    ) -> Corridor
+        ensures direction { result.direction ≡ direction }
         ensures origin { result.origin ≡ origin }
         ensures past { result.is_passable ≡ true → IsPastOrigin result }
         ensures near { (v : Place) → KeepsTo result v → IsWithin origin v place bound }
     {
         Corridor {
-            heading,
+            direction,
             origin,
             ceiling: Limit {
                 place: raised(place, bound),
@@ -261,8 +265,8 @@ impl Corridor {
         if !self.is_passable {
             return;
         }
-        let place = look(self.heading, point_at(ruler.xs, ruler.ys, vertex));
-        let more = Corridor::past(self.heading, self.origin, place, vertex, ruler.bound);
+        let place = look(self.direction, point_at(ruler.xs, ruler.ys, vertex));
+        let more = Corridor::past(self.direction, self.origin, place, vertex, ruler.bound);
         if !more.is_passable {
             // A vertex beside the origin or behind it stands against no way where it is within the
             // bound of the origin.
@@ -276,7 +280,7 @@ impl Corridor {
 
     // No way is left, and this vertex stands against each.
     fn close(&mut self, vertex: usize)
-        ensures heading { self.new.heading ≡ self.old.heading }
+        ensures direction { self.new.direction ≡ self.old.direction }
         ensures origin { self.new.origin ≡ self.old.origin }
         ensures shut { self.new.is_passable ≡ false }
     {
@@ -285,14 +289,14 @@ impl Corridor {
         self.is_passable = false;
     }
 
-    // The ways of both corridors, which have one origin and one heading. There may be none.
+    // The ways of both corridors, which have one origin and one direction. There may be none.
     fn narrowed(self, other: Corridor) -> Corridor
         requires origin { other.origin ≡ self.origin }
         requires passable { self.is_passable ≡ true }
         requires other_passable { other.is_passable ≡ true }
         requires past { IsPastOrigin self }
         requires other_past { IsPastOrigin other }
-        ensures heading { result.heading ≡ self.heading }
+        ensures direction { result.direction ≡ self.direction }
         ensures origin { result.origin ≡ self.origin }
         ensures past { IsPastOrigin result }
         ensures near { (v : Place) → KeepsTo result v → KeepsTo self v × KeepsTo other v }
@@ -300,7 +304,7 @@ impl Corridor {
         let ceiling = lower_of(self.origin, self.ceiling, other.ceiling);
         let floor = upper_of(self.origin, self.floor, other.floor);
         Corridor {
-            heading: self.heading,
+            direction: self.direction,
             origin: self.origin,
             ceiling,
             floor,
@@ -328,9 +332,9 @@ impl Corridor {
     /// None where the straight way to this place keeps to the corridor, and else the vertex that is
     /// most likely too far from it. That one may be any number, and may be near.
     pub(crate) fn culprit(&self, place: Point) -> Option<usize>
-        ensures { IsNone result → KeepsTo self.now (seen_along self.now.heading place) }
+        ensures { IsNone result → KeepsTo self.now (seen_along self.now.direction place) }
     {
-        let v = look(self.heading, place);
+        let v = look(self.direction, place);
         if self.lets(v) {
             return None;
         }

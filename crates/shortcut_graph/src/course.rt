@@ -8,18 +8,15 @@ ghost use Rattle.error_cone.specs.Courses.{IsConeFrom, LetsNear, RunsAlong};
 ghost use Rattle.shortcut_graph.specs.Weighed.{AreWeighed};
 
 use crate::ruler::Ruler;
-use chain_side::comes_before;
 use error_cone::Cone;
-use grid_exact::Frame;
+use grid_exact::{Direction, precedes};
 use lane_kernels::point_at;
 use map_index::IndexedMap;
 
-/// How the weighted vertices of a chain run: they rise in the order of the frame throughout, or
-/// fall throughout.
+/// How the weighted vertices of a chain run: in this direction throughout.
 #[derive(Clone, Copy)]
 pub(crate) struct Course {
-    frame: Frame,
-    rising: bool,
+    direction: Direction,
 }
 
 impl Course {
@@ -28,8 +25,8 @@ impl Course {
         requires chain { k < length map.now.chains }
         requires weighed { AreWeighed ruler.now.weights (chain_places (chain_at map.now.chains k))
             ruler.now.xs.now ruler.now.ys.now }
-        ensures { RunsAlong result.frame result.rising (place_at ruler.now.xs.now ruler.now.ys.now)
-            (length ruler.now.xs.now) }
+        ensures { RunsAlong result.direction.frame result.direction.rising
+            (place_at ruler.now.xs.now ruler.now.ys.now) (length ruler.now.xs.now) }
     {
         // The weights are above 0, as their readers say, so the weighted vertices run along as the
         // chain does.
@@ -37,16 +34,16 @@ impl Course {
         let frame = map.frame(k);
         let first = point_at(ruler.xs, ruler.ys, 0);
         let last = point_at(ruler.xs, ruler.ys, map.chain(k).len() - 1);
+        let rising = precedes(frame, first, last);
         Course {
-            frame,
-            rising: comes_before(frame, true, first, last),
+            direction: Direction { frame, rising },
         }
     }
 
     /// The cone of the bound from the vertex `start` that has taken the next vertex.
     pub(crate) fn cone_past_next(self, ruler: &Ruler<'_>, start: usize) -> Cone
         requires coordinates { AreCoordinates ruler.now.xs.now ruler.now.ys.now }
-        requires runs { RunsAlong self.frame self.rising
+        requires runs { RunsAlong self.direction.frame self.direction.rising
             (place_at ruler.now.xs.now ruler.now.ys.now) (length ruler.now.xs.now) }
         requires in_lists { start + 1 < length ruler.now.xs.now }
         ensures start { IsConeFrom result (place_at ruler.now.xs.now ruler.now.ys.now)
@@ -55,7 +52,7 @@ impl Course {
             (length ruler.now.xs.now) ruler.now.bound start (start + 2) }
     {
         let from = point_at(ruler.xs, ruler.ys, start);
-        let mut cone = Cone::start(self.frame, self.rising, from, ruler.bound);
+        let mut cone = Cone::start(self.direction, from, ruler.bound);
         cone.take(point_at(ruler.xs, ruler.ys, start + 1));
         cone
     }

@@ -12,11 +12,12 @@ ghost use Rattle.shortcut_graph.specs.Weighed.{AreWeighed, IsNearRun};
 ghost use Rattle.shortcut_graph.specs.Corridor.{IsCorridor};
 ghost use Rattle.shortcut_graph.specs.Doubles.{IsOpenPair};
 
-use crate::corridor::{Corridor, Heading, heading_of};
+use crate::corridor::{Corridor, direction_of};
 use crate::course::{Course, closes};
 use crate::doubles::is_doubled;
 use crate::ruler::{Ruler, is_near};
 use error_cone::Cone;
+use grid_exact::Direction;
 use layer_paths::Rows;
 use map_index::IndexedMap;
 use side_wedge::Beside;
@@ -47,12 +48,12 @@ pub fn fill(
         map.now.chains map.now.read.points k i j) }
 {
     let last = map.chain(k).len() - 1;
-    let heading = heading_of(ruler);
+    let direction = direction_of(ruler);
     let course = Course::of(map, k, ruler);
     for start in 0..last {
         mark_open(map, k, beside, start, row);
         let cone = course.cone_past_next(ruler, start);
-        set_row(rows, ruler, heading, cone, start, row);
+        set_row(rows, ruler, direction, cone, start, row);
     }
 }
 
@@ -109,7 +110,7 @@ fn allows(
 fn set_row(
     rows: &mut Rows,
     ruler: &Ruler<'_>,
-    heading: Heading,
+    direction: Direction,
     mut cone: Cone,
     start: usize,
     is_open: &[bool],
@@ -131,7 +132,7 @@ fn set_row(
 {
     rows.clear_row(start);
     rows.set(start, start + 1, true);
-    let mut corridor = Corridor::start(ruler, heading, start);
+    let mut corridor = Corridor::start(ruler, direction, start);
     corridor.take(ruler, start + 1);
     for end in start + 2..is_open.len() {
         if allows(ruler, is_open, start, end, &corridor) {

@@ -9,7 +9,7 @@ use Rattle.grid_exact.proofs.WholeLaws.{sums}
 use Rattle.grid_exact.proofs.Signs.{times_nonnegative, times_positive, nonnegative_times_nonpositive, times_negative}
 use Rattle.grid_exact.proofs.Polynomial.{◌⊕◌, ◌⊖◌, ◌⊗◌, ◌≈◌, identity_6}
 use Rattle.grid_exact.proofs.Orders.{up_to}
-use Rattle.grid_exact.proofs.Areas.{area_of-turned, area_turned}
+use Rattle.grid_exact.proofs.Areas.{area_of-turned, area_turned, area_parts}
 use Rattle.chain_side.specs.Along.{IsAlong, vertex_at}
 use Rattle.lane_kernels.specs.declared.side.Hand.{Hand}
 use Rattle.lane_kernels.specs.declared.side.Hand.TheVariants.{Left, Right}
@@ -18,10 +18,6 @@ use Rattle.side_wedge.specs.Flanks.{IsBeyond}
 use Rattle.side_wedge.specs.Flanks.IsBeyond.{West, East, South, North}
 use Rattle.side_wedge.proofs.Closed.{one_hand}
 
-parts_of_area : (a b p : Place) → area_of a b p ≡ (b.x -ℤ p.x) *ℤ (p.y -ℤ a.y) +ℤ (p.x -ℤ a.x) *ℤ (p.y -ℤ b.y)
-parts_of_area a b p = identity_6 a.x a.y b.x b.y p.x p.y (λ k m g h r s.
-    (g ⊖ k) ⊗ (s ⊖ m) ⊖ (h ⊖ m) ⊗ (r ⊖ k) ≈ (g ⊖ r) ⊗ (s ⊖ m) ⊕ (r ⊖ k) ⊗ (s ⊖ h)) refl
-
 below_both : (a b p : Place) → IsBefore a p → IsBefore p b → p.y <ℤ a.y → p.y <ℤ b.y → area_of a b p <ℤ pos 0
 below_both a b p (Across h) pb ya yb =
     let right = (up_to p b pb).across in
@@ -29,7 +25,7 @@ below_both a b p (Across h) pb ya yb =
     (omega (arith, sums)) in
     let v : ((p.x -ℤ a.x) *ℤ (p.y -ℤ b.y)) <ℤ pos 0 = times_negative (p.x -ℤ a.x) (p.y -ℤ b.y) (omega (arith, sums)) (omega (arith, sums))
     in
-    omega (arith, sums, parts_of_area a b p)
+    omega (arith, sums, area_parts a b p)
 below_both a b p (Up e h) pb ya yb = absurd (omega (arith, sums))
 
 above_both : (a b p : Place) → IsBefore a p → IsBefore p b → a.y <ℤ p.y → b.y <ℤ p.y → pos 0 <ℤ area_of a b p
@@ -39,7 +35,7 @@ above_both a b p ap' (Across h) ya yb =
     in
     let v : pos 0 ≤ℤ ((p.x -ℤ a.x) *ℤ (p.y -ℤ b.y)) = times_nonnegative (p.x -ℤ a.x) (p.y -ℤ b.y) (omega (arith, sums))
     (omega (arith, sums)) in
-    omega (arith, sums, parts_of_area a b p)
+    omega (arith, sums, area_parts a b p)
 above_both a b p ap' (Up e h) ya yb = absurd (omega (arith, sums))
 
 -- the way from a to b spans nothing that both are to the right of, or to the left

@@ -8,6 +8,7 @@ use Rattle.grid_exact.specs.Runs.{IsEdgeOf}
 use Rattle.arc_map.specs.Vertices.{Vertex, places}
 use Rattle.arc_map.specs.Allowed.{IsConsistent}
 use Rattle.arc_map.specs.Chains.{Chain, chain_at, no_chain, IsOtherEdge}
+use Rattle.arc_map.proofs.Chained.{chain_is_known}
 use Rattle.side_wedge.specs.Obstacles.{IsObstacle}
 use Rattle.side_wedge.specs.Obstacles.IsObstacle.{Town, Vertex as OfOther}
 use Rattle.side_wedge.specs.Laws.{AreConsistent, ConsistencyByEdges}
@@ -28,23 +29,14 @@ end_is_vertex v [] c d e = absurd e
 end_is_vertex v (w ∷ ws) c d (inl e) = (1, omega arith, ap (λ (x : Vertex). x.place) e.1)
 end_is_vertex v (w ∷ ws) c d (inr e) = has_later v.place (w.place ∷ places ws) d.place (end_is_vertex w ws c d e)
 
--- a chain past the list has no edge
-chain_inside : (chains : List Chain) (l : ℕ) (c d : Vertex) → IsEdgeOf (chain_at chains l).first (chain_at chains l).rest c d
-    → l < length chains
-chain_inside chains l c d edge =
-    elim (cases_lt l (length chains)) [
-      | inl less ↦ less
-      | inr past ↦ absurd (subst (λ (x : Chain). IsEdgeOf x.first x.rest c d) (get_or_past chains l no_chain past) edge)
-    ]
-
 obstacle_at_start : (chains : List Chain) (points : List Place) (k : ℕ) (c d : Vertex) → IsOtherEdge chains k c d
     → IsObstacle chains points k c.place
-obstacle_at_start chains points k c d h = OfOther h.chain (chain_inside chains h.chain c d h.edge) h.other
+obstacle_at_start chains points k c d h = OfOther h.chain (chain_is_known chains h.chain c d h.edge) h.other
     (start_is_vertex (chain_at chains h.chain).first (chain_at chains h.chain).rest c d h.edge)
 
 obstacle_at_end : (chains : List Chain) (points : List Place) (k : ℕ) (c d : Vertex) → IsOtherEdge chains k c d
     → IsObstacle chains points k d.place
-obstacle_at_end chains points k c d h = OfOther h.chain (chain_inside chains h.chain c d h.edge) h.other
+obstacle_at_end chains points k c d h = OfOther h.chain (chain_is_known chains h.chain c d h.edge) h.other
     (end_is_vertex (chain_at chains h.chain).first (chain_at chains h.chain).rest c d h.edge)
 
 -- ---- both ways

@@ -5,6 +5,7 @@ use Rattle.std.proofs.lemmas.List.{length-map, get_or-map}
 use Rattle.grid_exact.specs.Geometry.{Place, IsOnSegment}
 use Rattle.grid_exact.specs.Runs.{IsEdgeOf}
 use Rattle.grid_exact.proofs.Commons.{end_is_on}
+use Rattle.grid_exact.proofs.Orders.{denied}
 use Rattle.arc_map.specs.Vertices.{Vertex, MayJoin, MeetLawfully}
 use Rattle.arc_map.specs.Vertices.MayJoin.{One, BothEnd}
 use Rattle.arc_map.specs.Clear.{IsWithinChain, EachButLast}
@@ -13,7 +14,6 @@ use Rattle.arc_map.specs.Paths.{vertices_of}
 use Rattle.monotone_split.proofs.WalkParts.{edge_has}
 use Rattle.monotone_split.proofs.Maps.{lawful_swapped}
 use Rattle.monotone_split.proofs.Junctions.{join_at_end_and_start, join_at_ends, start_on_other, end_on_other}
-use Rattle.monotone_split.proofs.Shortcuts.{no_true}
 use Rattle.side_wedge.specs.Obstacles.{IsObstacle}
 use Rattle.side_wedge.specs.Obstacles.IsObstacle.{Town, Vertex as OfOther}
 
@@ -98,7 +98,7 @@ obstacle_on_edge chains points k p a b edges clear (OfOther l within other has) 
 -- ---- at a vertex within the chain
 
 no_join : (IsEdge : Vertex → Vertex → Type 0) (b c d x : Vertex) → IsEdge c d → IsWithinChain IsEdge b → (x ≡ c) ⊎ (x ≡ d) → MayJoin b x → ⊥
-no_join IsEdge b c d x edge within at (BothEnd e f) = no_true b.is_end within.no_end e
+no_join IsEdge b c d x edge within at (BothEnd e f) = denied b.is_end within.no_end e
 no_join IsEdge b c d x edge within (inl at) (One e) = within.no_start_of c d edge (e ∙ at)
 no_join IsEdge b c d x edge within (inr at) (One e) = within.no_end_of c d edge (e ∙ at)
 

@@ -17,9 +17,9 @@ use Rattle.grid_exact.proofs.Segments.{area_of-on}
 use Rattle.grid_exact.proofs.Walks.{end_of-pushed}
 use Rattle.arc_map.specs.Allowed.{IsConsistent}
 use Rattle.arc_map.specs.Allowed.IsConsistent.{AtStart, AtEnd, SameSide}
-use Rattle.monotone_split.specs.Sides.{IsOutside}
-use Rattle.monotone_split.specs.Sides.IsOutside.{Before as OutsideBefore, After as OutsideAfter}
-use Rattle.monotone_split.proofs.Sides.{outside_is_even}
+use Rattle.chain_side.specs.Sides.{IsOutside}
+use Rattle.chain_side.specs.Sides.IsOutside.{Before as OutsideBefore, After as OutsideAfter}
+use Rattle.chain_side.proofs.Outside.{outside_is_even}
 use Rattle.chain_side.specs.Along.{IsAlong}
 use Rattle.chain_side.specs.Sides.{IsSideOf}
 use Rattle.chain_side.specs.declared.sides.Side.{Side}

@@ -11,6 +11,7 @@ use Rattle.arc_map.specs.Allowed.{IsConsistent}
 use Rattle.arc_map.specs.Allowed.IsConsistent.{AtStart, AtEnd}
 use Rattle.arc_map.specs.Chains.{Chain, chain_at, chain_places, AreChains, IsClearIn}
 use Rattle.arc_map.specs.Paths.{vertices_of, vertex_at as vertex_number}
+use Rattle.arc_map.proofs.Chained.{length-chain_places}
 use Rattle.chain_side.specs.Along.{IsAlong, vertex_at}
 use Rattle.chain_side.proofs.AlongOrder.{compared_along, Earlier, There, Later, one_way, on_along}
 use Rattle.chain_side.proofs.Told.{way_of}
@@ -24,7 +25,7 @@ use Rattle.side_wedge.specs.Flanks.{Flanks, StandsInRow, IsBesideEdge, IsBeside,
 use Rattle.side_wedge.specs.Rows.{KeepsAll}
 use Rattle.side_wedge.specs.Strays.{RunsAlong}
 use Rattle.side_wedge.proofs.Spanning.{runs_by_number, before_later, after_earlier}
-use Rattle.side_wedge.proofs.Loading.{over_spanned, spanned_over, length-chain_places}
+use Rattle.side_wedge.proofs.Loading.{over_spanned, spanned_over}
 use Rattle.side_wedge.proofs.Closed.{IsOverRun, HandOf, OnHand, OnLine, hand_of_place, not_itself, before_consistent, behind_consistent}
 use Rattle.side_wedge.proofs.Closed.{consistent_by_hand, hand_by_consistent}
 use Rattle.side_wedge.proofs.Beyond.{beyond_keeps_hand}

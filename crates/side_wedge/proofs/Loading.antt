@@ -8,8 +8,8 @@ use Rattle.std.proofs.lemmas.List.Elements.{Contains-get_or}
 use Rattle.grid_exact.specs.Geometry.{Place}
 use Rattle.grid_exact.specs.declared.frame.Frame.{Frame}
 use Rattle.grid_exact.proofs.Commons.{same_place}
-use Rattle.monotone_split.specs.Sides.{IsSpanned}
-use Rattle.monotone_split.specs.Sides.IsSpanned.{Upwards, Downwards}
+use Rattle.chain_side.specs.Sides.{IsSpanned}
+use Rattle.chain_side.specs.Sides.IsSpanned.{Upwards, Downwards}
 use Rattle.chain_side.specs.Along.{IsAlong, vertex_at}
 use Rattle.chain_side.proofs.AlongOrder.{then_along, one_way}
 use Rattle.lane_kernels.specs.declared.side.Hand.{Hand}
@@ -19,6 +19,7 @@ use Rattle.arc_map.specs.Chains.{Chain, chain_at, chain_places}
 use Rattle.sweep_index.specs.declared.index.Owner.{Owner}
 use Rattle.sweep_index.specs.declared.index.Owner.TheVariants.{Town as OfTown, Chain as OfChain}
 use Rattle.arc_map.specs.Work.{Work}
+use Rattle.arc_map.proofs.Chained.{length-chain_places}
 use Rattle.map_index.specs.Items.{IsOther, Owns}
 use Rattle.side_wedge.specs.Obstacles.{IsObstacle}
 use Rattle.side_wedge.specs.Obstacles.IsObstacle.{Town, Vertex}
@@ -178,9 +179,6 @@ pub record IsLaidOut (w : Work) (k : ℕ) (rising : Bool) (steps : Steps) (stray
   pub starts : AreStarts strays b.starts (2 * length (chain_at w.chains k).rest)
   pub of_strays : AreOfStrays strays b.xs b.ys
   pub edges : All (λ chain. 0 < length chain.rest) w.chains
-
-pub length-chain_places : (c : Chain) → length (chain_places c) ≡ length c.rest + 1
-length-chain_places c = omega (arith, length-map c.rest (λ v. v.place))
 
 -- what is known of a place in a row
 record IsItemInRow (chains : List Chain) (points : List Place) (k : ℕ) (rising : Bool) (s : ℕ) (hand : Hand) (p : Place) : Type 0 where

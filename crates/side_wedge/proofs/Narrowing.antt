@@ -55,7 +55,7 @@ pub past_from : (w : Wedge) (frame : Frame) (rising : Bool) (start v : Place) �
 past_from w frame rising start v s h = rw (s.in_frame, s.direction, s.place) at h
 
 pub starts_still : (w new : Wedge) (frame : Frame) (rising : Bool) (start : Place) → StartsAt w frame rising start
-    → StartsAt new w.frame w.rising w.origin → StartsAt new frame rising start
+    → StartsAt new w.direction.frame w.direction.rising w.origin → StartsAt new frame rising start
 starts_still w new frame rising start s t = record {
   in_frame = t.in_frame ∙ s.in_frame;
   direction = t.direction ∙ s.direction;

@@ -10,7 +10,7 @@ use Rattle.chain_side.specs.Along.{IsAlong, vertex_at}
 use Rattle.chain_side.specs.Sides.{IsMonotoneChain}
 use Rattle.chain_side.proofs.AlongOrder.{then_along, one_way}
 use Rattle.chain_side.proofs.Passed.{vertex_at-last}
-use Rattle.chain_side.proofs.Told.{runs_along}
+use Rattle.chain_side.proofs.Told.{runs_along, last_vertex}
 use Rattle.side_wedge.specs.Strays.{RunsAlong, IsOverEdge}
 
 -- ---- which way a chain runs
@@ -28,10 +28,6 @@ runs_by_number frame rising v ws way a zero ab h = absurd (omega arith)
 runs_by_number frame rising v ws way zero (suc b) ab h = along_numbers frame rising v ws way b (omega arith)
 runs_by_number frame rising v [] way (suc a) (suc b) ab h = absurd (omega arith)
 runs_by_number frame rising v (w ∷ ws) way (suc a) (suc b) ab h = runs_by_number frame rising w ws way.1 a b (omega arith) (omega arith)
-
-last_vertex : (v w : Place) (ws : List Place) → vertex_at (v ∷ w ∷ ws) (length (v ∷ w ∷ ws) - 1) ≡ end_of w ws
-last_vertex v w ws = let e : length (v ∷ w ∷ ws) - 1 ≡ length (w ∷ ws) = omega arith in ap (vertex_at (v ∷ w ∷ ws)) e
-    ∙ vertex_at-last v (w ∷ ws)
 
 -- the first vertex and the last tell
 pub runs_by_ends : (frame : Frame) (chain : List Place) (rising : Bool) → IsMonotoneChain frame chain

@@ -8,7 +8,7 @@ use Rattle.grid_exact.specs.Crossing.{is_before}
 use Rattle.grid_exact.specs.declared.frame.Frame.{Frame}
 use Rattle.grid_exact.specs.declared.frame.Frame.TheVariants.{Plain, Turned}
 use Rattle.grid_exact.proofs.WholeLaws.{sums}
-use Rattle.grid_exact.proofs.Orders.{before_yes, tested, Yes, No}
+use Rattle.grid_exact.proofs.Orders.{before_yes, tested, Yes, No, denied}
 use Rattle.grid_exact.proofs.Signs.{at_most_or_above}
 use Rattle.chain_side.specs.Along.{IsAlong}
 use Rattle.lane_kernels.specs.declared.side.Hand.{Hand}
@@ -21,9 +21,6 @@ use Rattle.side_wedge.specs.Limits.{is_along, IsTighter, IsTightestOf}
 use Rattle.side_wedge.proofs.Rays.{area_swapped, left_then_not_right, not_right_then_left}
 
 -- ---- the test of the order along a chain
-
-pub denied : (t : Bool) → t ≡ false → IsTrue t → ⊥
-denied t e h = cc
 
 before_true : (a b : Place) → IsTrue (is_before a b) → IsBefore a b
 before_true a b h = elim (tested a b) [ Yes e k ↦ k | No e k ↦ absurd (denied (is_before a b) e h) ]

@@ -4,7 +4,7 @@ use Rattle.std.specs.List.{between}
 use Rattle.grid_exact.specs.Geometry.{Place}
 use Rattle.grid_exact.specs.Weights.{Scales}
 use Rattle.grid_exact.specs.declared.frame.Frame.{Frame}
-use Rattle.monotone_split.specs.Sides.{IsSpanned}
+use Rattle.chain_side.specs.Sides.{IsSpanned}
 use Rattle.chain_side.specs.Along.{vertex_at}
 use Rattle.lane_kernels.specs.declared.side.Hand.{Hand}
 use Rattle.lane_kernels.specs.declared.side.Hand.TheVariants.{Left, Right}

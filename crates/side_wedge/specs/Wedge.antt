@@ -16,14 +16,14 @@ pub record Lets (w : Wedge) (v : Place) : Type 0 where
 
 -- the wedge starts at this place of a chain that rises in the order of the frame, or that falls
 pub record StartsAt (w : Wedge) (frame : Frame) (rising : Bool) (start : Place) : Type 0 where
-  pub in_frame : w.frame ≡ frame
-  pub direction : w.rising ≡ rising
+  pub in_frame : w.direction.frame ≡ frame
+  pub direction : w.direction.rising ≡ rising
   pub place : w.origin ≡ start
 
 -- p is strictly past the start of the wedge
 abbrev pub IsPast : Wedge → Place → Type 0
-IsPast w p = IsAlong w.frame w.rising w.origin p
+IsPast w p = IsAlong w.direction.frame w.direction.rising w.origin p
 
 -- p is on this side of the line through the start of the wedge and v
 abbrev pub IsBesideWay : Wedge → Place → Place → Side → Type 0
-IsBesideWay w v p side = IsSideOfLine w.frame w.rising w.origin v p side
+IsBesideWay w v p side = IsSideOfLine w.direction.frame w.direction.rising w.origin v p side

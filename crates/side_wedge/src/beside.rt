@@ -19,7 +19,7 @@ use crate::strays::{Stray, rises, write_places, write_starts};
 use crate::wedge::Wedge;
 use arc_map::NoMemory;
 use chain_reach::Steps;
-use grid_exact::{Bound, Frame, MAX_CHAIN_EDGES, Point, Weights};
+use grid_exact::{Bound, Direction, Frame, MAX_CHAIN_EDGES, Point, Weights};
 use lane_kernels::Hand;
 use map_index::IndexedMap;
 use std::alloc::Global;
@@ -81,11 +81,11 @@ impl Beside {
     {
         let chain = map.chain(k);
         let frame = map.frame(k);
+        let rising = rises(chain, frame);
         let subject = Subject {
             number: k,
             chain,
-            frame,
-            rising: rises(chain, frame),
+            direction: Direction { frame, rising },
             steps: Steps::of(weights, bound),
         };
         gather(&mut self.strays, &subject, map);
@@ -122,7 +122,8 @@ impl Beside {
             allow_from(row, i + 1);
         } else {
             let frame = self.frame();
-            self.write_row(chain, frame, rises(chain, frame), i, row);
+            let rising = rises(chain, frame);
+            self.write_row(chain, Direction { frame, rising }, i, row);
         }
     }
 
@@ -143,22 +144,22 @@ impl Beside {
     // Tells of each vertex number j past the vertex number i whether what stands between them keeps
     // its side. The places up to i stay. Once the wedge is closed, nothing keeps its side to a
     // later vertex.
-    fn write_row(&self, chain: &[Point], frame: Frame, rising: bool, i: usize, row: &mut [bool])
+    fn write_row(&self, chain: &[Point], direction: Direction, i: usize, row: &mut [bool])
         requires start { i < length row.old }
         requires short { length chain.now ≤ 1024 }
         requires row { length row.old ≤ length chain.now }
         requires rows { length self.now.starts + 1 ≡ 2 * length chain.now }
-        requires runs { RunsAlong frame rising chain.now }
+        requires runs { RunsAlong direction.frame direction.rising chain.now }
         requires past { (s : ℕ) (hand : Hand) (p : Place) → i ≤ s → s + 1 < length chain.now
             → StandsInRow self.now (row_of s hand) p
-            → IsAlong frame rising (vertex_at chain.now i) p }
+            → IsAlong direction.frame direction.rising (vertex_at chain.now i) p }
         ensures told { (j : ℕ) → i < j → j < length row.new
             → (IsTrue (slice_index_or row.new j false) ↔ KeepsAll self.now chain.now i j) }
         ensures before { (j : ℕ) → j ≤ i → slice_index_or row.new j false
             ≡ slice_index_or row.old j false }
         ensures length { length row.new ≡ length row.old }
     {
-        let mut wedge = Wedge::start(frame, chain[i], rising);
+        let mut wedge = Wedge::start(direction, chain[i]);
         for edge in i..row.len() - 1 {
             self.narrow(&mut wedge, edge);
             if wedge.is_closed() {
@@ -177,7 +178,8 @@ impl Beside {
             → IsPast wedge.old p }
         ensures lets { (v : Place) → IsPast wedge.new v → Lets wedge.new v
             ↔ (Lets wedge.old v × KeepsSides self.now edge wedge.old.origin v) }
-        ensures origin { StartsAt wedge.new wedge.old.frame wedge.old.rising wedge.old.origin }
+        ensures origin { StartsAt wedge.new wedge.old.direction.frame wedge.old.direction.rising
+            wedge.old.origin }
     {
         let (xs, ys) = self.row(2 * edge);
         wedge.take_points(xs, ys, Hand::Left);

@@ -13,7 +13,7 @@ ghost use Rattle.side_wedge.specs.Strays.{RunsAlong, IsStrayItem, IsStrayOf, str
 
 use crate::strays::{Stray, stray_of};
 use chain_reach::{Extent, Steps, block_end, block_round, block_size, may_reach};
-use grid_exact::{Frame, Point};
+use grid_exact::{Direction, Point};
 use map_index::IndexedMap;
 use sweep_index::{Item, Walk};
 
@@ -23,8 +23,7 @@ use sweep_index::{Item, Walk};
 pub struct Subject<'a> {
     pub number: u32,
     pub chain: &'a [Point],
-    pub frame: Frame,
-    pub rising: bool,
+    pub direction: Direction,
     pub steps: Steps,
 }
 
@@ -35,7 +34,7 @@ pub fn gather(strays: &mut Vec<Stray>, subject: &Subject<'_>, map: &IndexedMap)
     requires several { 2 ≤ length subject.now.chain.now }
     requires short { length subject.now.chain.now ≤ 1024 }
     requires room { items_in map.now ≤ vec_capacity strays.old }
-    ensures strays { AreMapStrays subject.now.frame subject.now.rising subject.now.chain.now
+    ensures strays { AreMapStrays subject.now.direction.frame subject.now.direction.rising subject.now.chain.now
         subject.now.number subject.now.steps map.now strays.new.items }
     ensures sorted { IsNonDecreasingBy (λ x. x.row) strays.new.items }
     ensures count { vec_len strays.new ≤ items_in map.now }
@@ -50,7 +49,7 @@ fn find(strays: &mut Vec<Stray>, subject: &Subject<'_>, map: &IndexedMap)
     requires several { 2 ≤ length subject.now.chain.now }
     requires short { length subject.now.chain.now ≤ 1024 }
     requires room { items_in map.now ≤ vec_capacity strays.old }
-    ensures strays { AreMapStrays subject.now.frame subject.now.rising subject.now.chain.now
+    ensures strays { AreMapStrays subject.now.direction.frame subject.now.direction.rising subject.now.chain.now
         subject.now.number subject.now.steps map.now strays.new.items }
     ensures count { vec_len strays.new ≤ items_in map.now }
     ensures capacity { vec_capacity strays.new ≡ vec_capacity strays.old }
@@ -78,7 +77,7 @@ fn take_blocks(
     requires round { All (IsInBox whole.now.low whole.now.high) subject.now.chain.now }
     requires size { 0 < size }
     ensures strays { IsTrue result
-        → AreMapStrays subject.now.frame subject.now.rising subject.now.chain.now subject.now.number
+        → AreMapStrays subject.now.direction.frame subject.now.direction.rising subject.now.chain.now subject.now.number
         subject.now.steps map.now strays.new.items }
     ensures count { vec_len strays.new ≤ items_in map.now }
     ensures capacity { vec_capacity strays.new ≡ vec_capacity strays.old }
@@ -113,9 +112,9 @@ fn take_block(
     requires order { start < end }
     requires within { end < length subject.now.chain.now }
     ensures strays { IsTrue result
-        → AreStraysTo subject.now.frame subject.now.rising subject.now.chain.now subject.now.number
+        → AreStraysTo subject.now.direction.frame subject.now.direction.rising subject.now.chain.now subject.now.number
         subject.now.steps map.now start strays.old.items
-        → AreStraysTo subject.now.frame subject.now.rising subject.now.chain.now subject.now.number
+        → AreStraysTo subject.now.direction.frame subject.now.direction.rising subject.now.chain.now subject.now.number
         subject.now.steps map.now end strays.new.items }
     ensures count { vec_len strays.new ≤ items_in map.now }
     ensures capacity { vec_capacity strays.new ≡ vec_capacity strays.old }
@@ -137,7 +136,7 @@ fn take_whole(strays: &mut Vec<Stray>, subject: &Subject<'_>, map: &IndexedMap, 
     requires short { length subject.now.chain.now ≤ 1024 }
     requires room { items_in map.now ≤ vec_capacity strays.old }
     requires round { All (IsInBox whole.now.low whole.now.high) subject.now.chain.now }
-    ensures strays { AreMapStrays subject.now.frame subject.now.rising subject.now.chain.now
+    ensures strays { AreMapStrays subject.now.direction.frame subject.now.direction.rising subject.now.chain.now
         subject.now.number subject.now.steps map.now strays.new.items }
     ensures count { vec_len strays.new ≤ items_in map.now }
     ensures capacity { vec_capacity strays.new ≡ vec_capacity strays.old }
@@ -166,7 +165,7 @@ fn collect(
     requires room { room ≤ vec_capacity strays.old }
     requires count { vec_len strays.old ≤ room }
     ensures strays { IsTrue result
-        → AreStraysOf subject.now.frame subject.now.rising subject.now.chain.now subject.now.number
+        → AreStraysOf subject.now.direction.frame subject.now.direction.rising subject.now.chain.now subject.now.number
         subject.now.steps part.now strays.old.items (items_left walk.entry) strays.new.items }
     ensures all { length strays.old.items + length (items_left walk.entry) ≤ room → IsTrue result }
     ensures count { vec_len strays.new ≤ room }
@@ -185,11 +184,11 @@ fn collect(
 fn near_stray(subject: &Subject<'_>, part: &[Point], item: Item) -> Option<Stray>
     requires several { 2 ≤ length subject.now.chain.now }
     requires short { length subject.now.chain.now ≤ 1024 }
-    ensures some { IfSome result (IsStrayOf subject.now.frame subject.now.rising
+    ensures some { IfSome result (IsStrayOf subject.now.direction.frame subject.now.direction.rising
         subject.now.chain.now subject.now.number item) }
     ensures all { (s : ℕ) (hand : Hand)
-        → RunsAlong subject.now.frame subject.now.rising subject.now.chain.now
-        → IsStrayItem subject.now.frame subject.now.rising subject.now.chain.now subject.now.number
+        → RunsAlong subject.now.direction.frame subject.now.direction.rising subject.now.chain.now
+        → IsStrayItem subject.now.direction.frame subject.now.direction.rising subject.now.chain.now subject.now.number
         item s hand → IsNearSomeEdge subject.now.steps part.now item.at
         → result ≡ Some (stray s hand item.at) }
 {
@@ -201,8 +200,7 @@ fn near_stray(subject: &Subject<'_>, part: &[Point], item: Item) -> Option<Stray
     }
     stray_of(
         subject.chain,
-        subject.frame,
-        subject.rising,
+        subject.direction,
         subject.number,
         item,
     )

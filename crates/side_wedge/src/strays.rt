@@ -13,13 +13,13 @@ ghost use Rattle.side_wedge.specs.Strays.{RunsAlong, IsOverEdge, IsStrayItem, Is
 ghost use Rattle.side_wedge.specs.Strays.{stray};
 
 use chain_side::{comes_before, edge_at};
-use grid_exact::{Frame, Point, area};
+use grid_exact::{Direction, Frame, Point, area, precedes};
 use lane_kernels::Hand;
 use map_index::is_other;
 use sweep_index::Item;
 
-// A point beside an edge of a chain, in its row: on the left of the edge number s is the row 2 * s,
-// on its right the row 2 * s + 1.
+// A point beside an edge of a chain, in its row: of two rows to an edge, that on its
+// left has the even number.
 #[derive(Clone, Copy)]
 pub struct Stray {
     pub row: u32,
@@ -31,22 +31,23 @@ pub fn rises(chain: &[Point], frame: Frame) -> bool
     requires { IsMonotoneChain frame chain.now }
     ensures { RunsAlong frame result chain.now }
 {
-    comes_before(frame, true, chain[0], chain[chain.len() - 1])
+    precedes(frame, chain[0], chain[chain.len() - 1])
 }
 
 // The item as a stray, where it belongs to another chain than the chain number `k`, or to none, and
 // stands beside an edge of the chain.
-pub fn stray_of(chain: &[Point], frame: Frame, rising: bool, k: u32, item: Item) -> Option<Stray>
+pub fn stray_of(chain: &[Point], direction: Direction, k: u32, item: Item) -> Option<Stray>
     requires several { 2 ≤ length chain.now }
     requires short { length chain.now ≤ 1024 }
-    ensures some { IfSome result (IsStrayOf frame rising chain.now k item) }
-    ensures all { (s : ℕ) (hand : Hand) → RunsAlong frame rising chain.now
-        → IsStrayItem frame rising chain.now k item s hand → result ≡ Some (stray s hand item.at) }
+    ensures some { IfSome result (IsStrayOf direction.frame direction.rising chain.now k item) }
+    ensures all { (s : ℕ) (hand : Hand) → RunsAlong direction.frame direction.rising chain.now
+        → IsStrayItem direction.frame direction.rising chain.now k item s hand
+        → result ≡ Some (stray s hand item.at) }
 {
     if !is_other(item.owner, k) {
         return None;
     }
-    let edge = edge_under(chain, frame, rising, item.at)?;
+    let edge = edge_under(chain, direction, item.at)?;
     let hand = hand_beside(chain[edge], chain[edge + 1], item.at)?;
     Some(Stray {
         row: row(edge, hand),
@@ -66,18 +67,18 @@ fn row(edge: usize, hand: Hand) -> u32
 }
 
 // The edge of the chain between whose ends p stands strictly.
-fn edge_under(chain: &[Point], frame: Frame, rising: bool, p: Point) -> Option<usize>
+fn edge_under(chain: &[Point], direction: Direction, p: Point) -> Option<usize>
     requires { 2 ≤ length chain.now }
-    ensures some { IfSome result (IsOverEdge frame rising chain.now p) }
-    ensures all { (s : ℕ) → RunsAlong frame rising chain.now → IsOverEdge frame rising chain.now p s
-        → result ≡ Some s }
+    ensures some { IfSome result (IsOverEdge direction.frame direction.rising chain.now p) }
+    ensures all { (s : ℕ) → RunsAlong direction.frame direction.rising chain.now
+        → IsOverEdge direction.frame direction.rising chain.now p s → result ≡ Some s }
 {
     let last = chain.len() - 1;
-    if comes_before(frame, rising, p, chain[0]) || comes_before(frame, rising, chain[last], p) {
+    if comes_before(direction, p, chain[0]) || comes_before(direction, chain[last], p) {
         return None;
     }
-    let edge = edge_at(chain, frame, rising, p);
-    if is_between(frame, rising, chain[edge], chain[edge + 1], p) {
+    let edge = edge_at(chain, direction, p);
+    if is_between(direction, chain[edge], chain[edge + 1], p) {
         Some(edge)
     } else {
         None
@@ -85,10 +86,11 @@ fn edge_under(chain: &[Point], frame: Frame, rising: bool, p: Point) -> Option<u
 }
 
 // Whether p comes after a and before b along the chain.
-fn is_between(frame: Frame, rising: bool, a: Point, b: Point, p: Point) -> bool
-    ensures { IsTrue result ↔ (IsAlong frame rising a p × IsAlong frame rising p b) }
+fn is_between(direction: Direction, a: Point, b: Point, p: Point) -> bool
+    ensures { IsTrue result ↔ (IsAlong direction.frame direction.rising a p
+        × IsAlong direction.frame direction.rising p b) }
 {
-    comes_before(frame, rising, a, p) && comes_before(frame, rising, p, b)
+    comes_before(direction, a, p) && comes_before(direction, p, b)
 }
 
 // The hand of the way from a to b on which p is, or None where it is on the line.

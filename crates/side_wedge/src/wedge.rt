@@ -9,34 +9,31 @@ ghost use Rattle.side_wedge.specs.Limits.{is_along};
 
 use crate::limits::{is_within, leaves_none, tighter, tightest};
 use chain_side::Side;
-use grid_exact::{Frame, Point};
+use grid_exact::{Direction, Frame, Point};
 use lane_kernels::Hand;
 
 /// From a start, the points past it in the direction of a chain to which a straight way leaves each
 /// point taken so far on its side. Of the points taken only the tightest on either hand are kept.
 #[derive(Clone, Copy)]
 pub struct Wedge {
-    frame: Frame,
-    rising: bool,
+    direction: Direction,
     origin: Point,
     left: Option<Point>,
     right: Option<Point>,
-    pub ghost left_past: { ForSome left (λ p. IsTrue (is_along frame rising origin p)) },
-    pub ghost right_past: { ForSome right (λ p. IsTrue (is_along frame rising origin p)) },
+    pub ghost left_past: { ForSome left (λ p. IsTrue (is_along direction.frame direction.rising origin p)) },
+    pub ghost right_past: { ForSome right (λ p. IsTrue (is_along direction.frame direction.rising origin p)) },
 }
 
 impl Wedge {
     ghost use Rattle.side_wedge.specs.Wedge.{Lets, StartsAt, IsPast, IsBesideWay};
 
-    /// A wedge at this start that lets every point. `rising` tells whether the chain rises in the
-    /// order of the frame, or falls.
-    pub fn start(frame: Frame, from: Point, rising: bool) -> Wedge
-        ensures origin { StartsAt result frame rising from }
+    /// A wedge at this start, along a chain of this direction, that lets every point.
+    pub fn start(direction: Direction, from: Point) -> Wedge
+        ensures origin { StartsAt result direction.frame direction.rising from }
         ensures lets { (v : Place) → Lets result v }
     {
         Wedge {
-            frame,
-            rising,
+            direction,
             origin: from,
             left: None,
             right: None,
@@ -51,9 +48,9 @@ impl Wedge {
         requires side { IsAside side }
         ensures lets { (v : Place) → IsPast self.new v → Lets self.new v
             ↔ (Lets self.old v × IsBesideWay self.old v p side) }
-        ensures origin { StartsAt self.new self.old.frame self.old.rising self.old.origin }
+        ensures origin { StartsAt self.new self.old.direction.frame self.old.direction.rising self.old.origin }
     {
-        match hand_of(self.frame, self.rising, side) {
+        match hand_of(self.direction, side) {
             Hand::Left => self.left = Some(tighter(self.origin, self.left, p, Hand::Left)),
             Hand::Right => self.right = Some(tighter(self.origin, self.right, p, Hand::Right)),
         }
@@ -82,7 +79,7 @@ impl Wedge {
         requires past { EachPlace (IsPast self.old) xs.now ys.now }
         ensures lets { (v : Place) → IsPast self.new v → Lets self.new v
             ↔ (Lets self.old v × EachPlace (IsOnSide hand self.old.origin v) xs.now ys.now) }
-        ensures origin { StartsAt self.new self.old.frame self.old.rising self.old.origin }
+        ensures origin { StartsAt self.new self.old.direction.frame self.old.direction.rising self.old.origin }
     {
         match hand {
             Hand::Left => self.left = tightest(self.origin, self.left, xs, ys, Hand::Left),
@@ -92,13 +89,13 @@ impl Wedge {
 }
 
 // The hand of the way along a chain on which this side of it is.
-fn hand_of(frame: Frame, rising: bool, side: Side) -> Hand
+fn hand_of(direction: Direction, side: Side) -> Hand
     requires { IsAside side }
-    ensures { side_of frame rising result ≡ side }
+    ensures { side_of direction.frame direction.rising result ≡ side }
 {
-    let above = match frame {
-        Frame::Plain => rising,
-        Frame::Turned => !rising,
+    let above = match direction.frame {
+        Frame::Plain => direction.rising,
+        Frame::Turned => !direction.rising,
     };
     if (side == Side::Above) == above {
         Hand::Left

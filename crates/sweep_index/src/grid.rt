@@ -3,21 +3,18 @@ ghost use Rattle.std.specs.Prelude.{◌≡◌, ◌+◌, ◌*◌, ◌<◌, ◌≤
 ghost use Rattle.grid_exact.specs.Geometry.{IsGridNumber};
 ghost use Rattle.sweep_index.specs.Offsets.{offset_of};
 
-use grid_exact::Point;
-
-// How far the least coordinate is below 0.
-const REACH: i64 = 1 << 29;
+use grid_exact::{MAX_COORDINATE, Point};
 
 // How many columns and how many rows there are at most.
 const MOST: u32 = 1 << 11;
 
-// How far a coordinate is above the least one, in grid units.
+/// How far a coordinate is above the least one, in grid units.
 pub fn offset(z: i64) -> u32
     requires { IsGridNumber z }
     ensures value { result ≡ offset_of z }
     ensures small { result ≤ 2 ^ 30 }
 {
-    (z + REACH) as u32
+    (z + MAX_COORDINATE) as u32
 }
 
 // Rows and columns of square cells, with the corner of the first one. What lies outside counts to

@@ -13,6 +13,7 @@ mod things;
 mod walk;
 
 pub use edges::{EdgeIndex, PairWalk, TownWalk};
+pub use grid::offset;
 pub use index::{Index, Item, Owner};
 pub use slabs::{EdgeSlabs, EdgeWalk};
 pub use walk::Walk;

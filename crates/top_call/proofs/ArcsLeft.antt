@@ -15,7 +15,7 @@ use Rattle.arc_map.specs.Edges.{EachOf}
 use Rattle.arc_map.specs.Records.{Record}
 use Rattle.arc_map.specs.Work.{work_of, chain_in}
 use Rattle.arc_map.proofs.Cutting.{distinct_places, pairs_of_run}
-use Rattle.monotone_split.proofs.Cuts.{parts_of_arc, parts_of_arcs}
+use Rattle.monotone_split.proofs.Cuts.{parts_of_arc, parts_of_arcs, next_monotone}
 use Rattle.monotone_split.proofs.Finish.{taken, left_over}
 use Rattle.monotone_split.proofs.WalkParts.{to_places, from_places}
 use Rattle.chain_replace.specs.Run.{Terms, IsOutcome}
@@ -41,15 +41,6 @@ apart_joined : (v : Vertex) (ws us : List Vertex) → AreApart v ws → AreApart
 apart_joined v [] us first later = later
 apart_joined v (w ∷ ws) us first later = (first.0, apart_joined w ws us first.1 later)
 
-next_one_way : (v : Vertex) (ws : List Vertex) (k : Chain) → k.first ≡ v → IsNextChain v ws k
-    → IsMonotone k.frame k.first.place (places k.rest)
-next_one_way v ws k e (PlainReaches other f plain turned longer) =
-    subst (λ (x : Vertex). IsMonotone k.frame x.place (places k.rest)) (sym e)
-    (subst (λ (x : Frame). IsMonotone x v.place (places k.rest)) (sym f) plain.one_way)
-next_one_way v ws k e (TurnedReaches other f plain turned longer) =
-    subst (λ (x : Vertex). IsMonotone k.frame x.place (places k.rest)) (sym e)
-    (subst (λ (x : Frame). IsMonotone x v.place (places k.rest)) (sym f) turned.one_way)
-
 walk_apart : (v : Vertex) (ws : List Vertex) (ks ls : List Chain) → IsCutInto v ws ks → AllZip IsRunOf ks ls → AreApart v (joined_rests ls)
 walk_apart v ws [] [] cut runs = tt
 walk_apart v ws [] (l ∷ ls) cut runs = absurd runs
@@ -57,7 +48,7 @@ walk_apart v ws (k ∷ ks) [] cut runs = absurd runs
 walk_apart v ws (k ∷ ks) (l ∷ ls) cut runs =
     let run = runs.0 in
     let first : l.first ≡ v = run.first ∙ cut.0 in
-    let one_way = run.one_way (next_one_way v ws k cut.0 cut.1) in
+    let one_way = run.one_way (next_monotone v ws k cut.0 cut.1) in
     let here : AreApart v l.rest = subst (λ (x : Vertex). AreApart x l.rest) first (run_apart l.frame l.first l.rest one_way) in
     let last : end_of v l.rest ≡ end_of v k.rest = ap (λ (x : Vertex). end_of x l.rest) (sym first) ∙ run.last
     ∙ ap (λ (x : Vertex). end_of x k.rest) cut.0 in

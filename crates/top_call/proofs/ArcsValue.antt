@@ -12,6 +12,7 @@ use Rattle.topo_reader.specs.Reads.{TopologyRead, header_of, topology_from, topo
 use Rattle.topo_reader.specs.Arcs.{arcs_value}
 use Rattle.topo_reader.specs.Reads.{map_of}
 use Rattle.topo_reader.proofs.ArcLaws.{not-ok, same-ok, then-ok}
+use Rattle.topo_writer.proofs.ReadsBack.{found-once}
 use Rattle.top_call.specs.Maps.{HasTopology}
 
 -- ---- the value of a member
@@ -36,11 +37,6 @@ found_is_value s name k end (NextEntry e word t others) v are h =
       | inr behind ↦ found_is_value s name (after_at s (k + 1)) end others v are.3 behind
     ]
 
-found_once : (holder t : Tree) (l : Lookup) → at_found holder l ≡ Ok t → l ≡ OnceIn t
-found_once holder t NowhereIn h = not-ok _ t h
-found_once holder t (OnceIn u) h = ap OnceIn (same-ok u t h)
-found_once holder t (TwiceIn e) h = not-ok _ t h
-
 -- ---- the value of `arcs`
 
 -- an extent lies in the text
@@ -56,8 +52,8 @@ object_lies s k end holder members t are h =
     let arced = then-ok (arcs_value headed.0 valued.0) _ t valued.2 in
     let mapped = then-ok (map_of headed.0 arced.0 holder members) _ t arced.2 in
     let same = same-ok (record { map = mapped.0; arcs_at = extent_of valued.0 }) t mapped.2 in
-    let value =
-    found_is_value s (codes "arcs") k end members valued.0 are (found_once holder valued.0 (lookup (codes "arcs") members) valued.1) in
+    let value = found_is_value s (codes "arcs") k end members valued.0 are
+    (found-once holder valued.0 (lookup (codes "arcs") members) valued.1) in
     let node = tree-node s value.0 valued.0 value.1 in
     subst (λ (u : TopologyRead). LiesWithin s u.arcs_at) same (record { forwards = node.long; within = node.in_text })
 

@@ -19,7 +19,7 @@ use Rattle.chain_replace.proofs.SameCuts.{chains_lie_once}
 use Rattle.cert_checker.specs.Judged.{demand, is_free, record_spot, chain_spot, AreSteps, IsAccepted, AreJudged}
 use Rattle.cert_checker.specs.declared.verdicts.Verdict.TheVariants.{Yes}
 use Rattle.cert_checker.proofs.Holding.{is_held, held_from_contains, contains_from_held}
-use Rattle.cert_checker.proofs.Thinned.{other_thinned}
+use Rattle.monotone_split.proofs.Maps.{chain_same}
 use Rattle.top_call.specs.Laws.{RecordsAreJudgedYes}
 
 -- ---- one record
@@ -71,7 +71,7 @@ pub later_as_read : (m : Map) (chains : List Chain) (k j : ℕ) (kept : List Ver
 later_as_read m chains k j kept [] behind are = tt
 later_as_read m chains k j kept (r ∷ rs) behind are =
     let other : j ≢ k = omega arith in
-    (other_thinned chains k j kept other ∙ are.0, later_as_read m chains k (suc j) kept rs (omega arith) are.1)
+    (chain_same chains k j kept other ∙ are.0, later_as_read m chains k (suc j) kept rs (omega arith) are.1)
 
 -- ---- the chains whose arcs are not held
 

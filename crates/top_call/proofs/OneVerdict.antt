@@ -9,18 +9,13 @@ use Rattle.cert_checker.specs.declared.verdicts.Reason.{Reason}
 use Rattle.cert_checker.specs.declared.verdicts.Reason.TheVariants as reasons
 use Rattle.cert_checker.specs.declared.verdicts.Verdict.{Verdict}
 use Rattle.cert_checker.specs.declared.verdicts.Verdict.TheVariants.{Yes, No}
+use Rattle.cert_checker.proofs.Uniqueness.{got_before}
 use Rattle.top_call.specs.declared.forms.Options.{Options}
 use Rattle.top_call.specs.Reading.{Read}
 use Rattle.top_call.specs.Answers.{IsChecked, NotCertificate, IsRefuted, IsCompared, IsComparison, text_with}
 use Rattle.top_call.proofs.OnlyYes.{compared_equal, judged_for_once}
 
 -- ---- one first difference
-
-got_before : {A : Type 0} (xs : List A) (l k : ℕ) → k < l → slice_get (take l xs) k ≡ slice_get xs k
-got_before xs zero k before = absurd (omega (arith, before))
-got_before [] (suc l) k before = refl
-got_before (x ∷ xs) (suc l) zero before = refl
-got_before (x ∷ xs) (suc l) (suc k) before = got_before xs l k (omega (arith, before))
 
 not_earlier : (xs ys : List ℕ) (k l : ℕ) → IsFirstDifference xs ys k → IsFirstDifference xs ys l → k < l → ⊥
 not_earlier xs ys k l first second before =

@@ -10,15 +10,12 @@ use Rattle.arc_map.specs.Map.{Map, IsArc}
 use Rattle.arc_map.specs.Arranged.{arc_at, nowhere}
 use Rattle.arc_map.specs.Records.{Record}
 use Rattle.arc_map.proofs.Rising.{rising_order, rising-length}
+use Rattle.arc_map.proofs.Finishing.{has_position}
 use Rattle.topo_writer.specs.Fits.{StandsFor, FitsIn}
 use Rattle.chain_replace.specs.Run.{Terms, NearBy, IsOutcome}
 use Rattle.chain_replace.specs.Thinned.{place_at, IsThinned}
 use Rattle.chain_replace.proofs.ThinnedArcs.{outcome_thins_arcs}
 use Rattle.top_call.proofs.ArcsLeft.{outcome_has_arcs}
-
-arc_is_filled : (ps : List Place) → IsArc ps → 0 < length ps
-arc_is_filled [] is = absurd is
-arc_is_filled (p ∷ ps) is = omega arith
 
 -- numbers that rise to the last one below n are below n
 numbers_below : (n : ℕ) (numbers : List ℕ) → 0 < n → IsStrictlyIncreasing numbers → slice_index numbers (length numbers - 1) ≡ n - 1
@@ -46,7 +43,7 @@ left_place before after numbers k n places below is under =
 thinned_stands : (Near : Place → Place → Place → Type 0) (before after : List Place) (numbers : List ℕ) → IsArc before → IsArc after
     → IsThinned Near before after numbers → StandsFor before after
 thinned_stands Near before after numbers was is thinned =
-    let filled : 0 < length before = arc_is_filled before was in
+    let filled : 0 < length before = has_position before was in
     let some : 0 < length numbers = thinned.some.1 filled in
     let size : length after ≡ length numbers = ap length thinned.places ∙ length-map numbers (place_at before) in
     let below = numbers_below (length before) numbers filled thinned.rising thinned.last in

@@ -14,6 +14,7 @@ use Rattle.monotone_split.proofs.Numbers.{path_in}
 use Rattle.monotone_split.proofs.Paths.{kept_monotone}
 use Rattle.chain_replace.specs.Run.{Terms, NearBy, IsAllowedIn, last_of, IsRecordOf, AreReplaced}
 use Rattle.chain_replace.proofs.BestPaths.{path_leads}
+use Rattle.chain_replace.proofs.NearPaths.{skipped_end}
 
 -- the chain l has the ends of the chain k, and runs one way where that does
 pub record IsRunOf (k l : Chain) : Type 0 where
@@ -45,15 +46,11 @@ one_replaced (s ∷ ss) (k ∷ ks) (suc n) x runs here = (runs.0, one_replaced s
 
 -- ---- a path ends where its walk does
 
-skipped_last : (v : Vertex) (skipped : List Vertex) (w : Vertex) (rest : List Vertex) → end_of v (skipped ++ w ∷ rest) ≡ end_of w rest
-skipped_last v [] w rest = refl
-skipped_last v (s ∷ ss) w rest = skipped_last s ss w rest
-
 path_last : (Allowed : Vertex → List Vertex → Vertex → Type 0) (v : Vertex) (ws us : List Vertex) → IsPath Allowed v ws us
     → end_of v us ≡ end_of v ws
 path_last Allowed v ws [] path = ap (λ (xs : List Vertex). end_of v xs) (sym path)
-path_last Allowed v ws (u ∷ us) path =
-    path_last Allowed u path.1 us path.4 ∙ sym (skipped_last v path.0 u path.1) ∙ ap (λ (xs : List Vertex). end_of v xs) (sym path.2)
+path_last Allowed v ws (u ∷ us) path = path_last Allowed u path.1 us path.4 ∙ sym (skipped_end v path.0 u path.1)
+    ∙ ap (λ (xs : List Vertex). end_of v xs) (sym path.2)
 
 -- ---- the chains of a run
 

@@ -18,6 +18,7 @@ use Rattle.arc_map.proofs.Cutting.{IsRun, runs_of_arcs}
 use Rattle.arc_map.proofs.Rising.{rising-length}
 use Rattle.cert_format.specs.Certificate.{further, record_text, content}
 use Rattle.chain_replace.specs.Run.{Terms, IsAllowedIn, last_of, IsRecordOf, AreReplaced, IsOutcome}
+use Rattle.chain_replace.proofs.BestPaths.{steps_left}
 use Rattle.top_call.specs.declared.forms.Options.{Options}
 use Rattle.top_call.specs.Answers.{IsCertified, terms_of, version_of}
 use Rattle.top_call.specs.Maps.{AreHeldBeside, scales_of}
@@ -26,7 +27,6 @@ use Rattle.top_call.proofs.CertificateLengths.{IsOfEdges, record_is_short, certi
 use Rattle.top_call.proofs.ChainEdges.{edge_count, edges_of_arcs}
 use Rattle.top_call.proofs.Entries.{AreAsRead, left_as_read, later_as_read}
 use Rattle.top_call.proofs.ReadMaps.{read_map_is_map}
-use Rattle.top_call.proofs.SmallRecords.{steps_left}
 use Rattle.top_call.proofs.WithinLimits.{held_are_arcs, run_keeps_limits}
 
 -- ---- paths and layers

@@ -9,11 +9,11 @@ use Rattle.std.proofs.lemmas.List.Elements.{All-nil, All-cons, All-head, All-tai
 use Rattle.std.proofs.lemmas.List.Sums.{sum_by-cons}
 use Rattle.grid_exact.specs.Geometry.{Place, IsOnGrid}
 use Rattle.arc_map.specs.Map.{Map, IsArc}
+use Rattle.arc_map.proofs.Finishing.{has_position}
 use Rattle.topo_writer.specs.Texts.{behind_commas, list_text, position_text, IsDifference}
 use Rattle.topo_writer.specs.ArcsText.{difference, differences, coded_positions, arc_text, arcs_text_of}
 use Rattle.topo_writer.specs.Splice.{spliced}
 use Rattle.topo_writer.proofs.Lengths.{short_difference}
-use Rattle.top_call.proofs.ChainEdges.{arc_is_some}
 
 -- ---- positions
 
@@ -120,7 +120,7 @@ further_arcs coded (ps ∷ arcs) are on =
     omega (
       arith,
       arc_fits coded ps (All-head IsArc ps arcs are) (All-head (All IsOnGrid) ps arcs on),
-      arc_is_some ps (All-head IsArc ps arcs are),
+      has_position ps (All-head IsArc ps arcs are),
       further_arcs coded arcs (All-tail IsArc ps arcs are) (All-tail (All IsOnGrid) ps arcs on),
       sum_by-cons length ps arcs,
       length-append (codes "," ++ arc_text coded ps) (behind_commas (map (arc_text coded) arcs)),

@@ -16,6 +16,7 @@ use Rattle.arc_map.specs.Work.{Work, work_of, thinned_work, chain_in, vertex_in,
 use Rattle.arc_map.specs.declared.refs.ChainRef.{ChainRef}
 use Rattle.cert_format.specs.Certificate.{IsSmall, IsRecord, IsCertificate, content}
 use Rattle.chain_replace.specs.Run.{Terms, IsAllowedIn, last_of, IsRecordOf, AreReplaced}
+use Rattle.chain_replace.proofs.BestPaths.{steps_left}
 use Rattle.topo_reader.specs.Reads.{TopologyRead}
 use Rattle.top_call.specs.declared.forms.Options.{Options}
 use Rattle.top_call.specs.Answers.{IsRun, terms_of, version_of}
@@ -38,10 +39,6 @@ path_is_small : (Pair : ℕ → ℕ → Type 0) (m : ℕ) (path : List ℕ) → 
 path_is_small Pair m [] small none = absurd none
 path_is_small Pair m (start ∷ rest) small path =
     way_is_small Pair m start rest small (subst (λ (i : ℕ). LeadsTo Pair m i rest) (sym path.0) path.1)
-
-pub steps_left : (Pair : ℕ → ℕ → Type 0) (m i : ℕ) (rest : List ℕ) → LeadsTo Pair m i rest → i + length rest ≤ m
-steps_left Pair m i [] leads = omega (arith, leads)
-steps_left Pair m i (next ∷ rest) leads = omega (arith, leads.0, steps_left Pair m next rest leads.2)
 
 layers_are_small : (Pair : ℕ → ℕ → Type 0) (m : ℕ) (layers : List ℕ) → m < 2 ^ 32 → AreLayers Pair m layers → All IsSmall layers
 layers_are_small Pair m layers small are k d within =

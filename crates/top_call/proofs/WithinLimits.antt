@@ -18,6 +18,7 @@ use Rattle.arc_map.proofs.Cutting.{count_of_arcs}
 use Rattle.arc_map.proofs.Rising.{rising-length}
 use Rattle.cert_format.specs.Certificate.{IsVersion, KeepsLimits, content}
 use Rattle.chain_replace.specs.Run.{Terms, AreReplaced, IsOutcome}
+use Rattle.arrangement_check.proofs.Positions.{arc_in}
 use Rattle.top_call.specs.declared.forms.Options.{Options}
 use Rattle.topo_reader.specs.Reads.{TopologyRead}
 use Rattle.top_call.specs.Maps.{scales_of, AreHeldBeside}
@@ -27,19 +28,10 @@ use Rattle.top_call.proofs.ReadMaps.{read_map_is_map}
 
 -- ---- the held arcs
 
-edge_in_map : (m : Map) (e : EdgeRef) → IsMapEdge m e → e.arc < length m.arcs
-edge_in_map m e edge =
-    elim (cases_lt e.arc (length m.arcs)) [
-      | inl below ↦ below
-      | inr past ↦
-          let none : arc_at m e.arc ≡ [] = get_or_past m.arcs e.arc [] (omega arith) in
-          absurd (omega (arith, edge, ap length none))
-    ]
-
 held_in_map : (m : Map) (arc : ℕ) → IsHeld m arc → arc < length m.arcs
-held_in_map m arc (ByFirst e f same edge other before clash) = subst (λ (n : ℕ). n < length m.arcs) same (edge_in_map m e edge)
-held_in_map m arc (BySecond e f same edge other before clash) = subst (λ (n : ℕ). n < length m.arcs) same (edge_in_map m f other)
-held_in_map m arc (ByPoint k e same point edge on) = subst (λ (n : ℕ). n < length m.arcs) same (edge_in_map m e edge)
+held_in_map m arc (ByFirst e f same edge other before clash) = subst (λ (n : ℕ). n < length m.arcs) same (arc_in m e edge)
+held_in_map m arc (BySecond e f same edge other before clash) = subst (λ (n : ℕ). n < length m.arcs) same (arc_in m f other)
+held_in_map m arc (ByPoint k e same point edge on) = subst (λ (n : ℕ). n < length m.arcs) same (arc_in m e edge)
 
 -- each held arc is an arc of the map
 pub held_are_arcs : (hold : Bool) (m : Map) (held : List ℕ) → AreHeldBeside hold m held → (k d : ℕ) → k < length held

@@ -10,6 +10,7 @@ use Rattle.std.proofs.lemmas.Option.{slice_get_within, slice_get-get_or}
 use Rattle.std.proofs.lemmas.List.Sums.{sum_by_push}
 use Rattle.grid_exact.specs.Geometry.{Place}
 use Rattle.arc_map.specs.Map.{IsArc}
+use Rattle.arc_map.proofs.Listing.{both_true}
 use Rattle.json_scan.specs.declared.whole.Whole.TheVariants as whole
 use Rattle.json_scan.specs.Tree.{Tree, NullAt, FalseAt, TrueAt, NumberAt, TextAt, ListAt, ObjectAt, Trees, NoTrees, NextTree}
 use Rattle.topo_reader.specs.declared.fault.What.TheVariants as what
@@ -23,13 +24,9 @@ use Rattle.topo_reader.proofs.ArcLaws.{not-ok, same-ok, then-ok, counted-ok}
 
 -- ---- places that are the same
 
-both-true : (a b : Bool) → (a && b) ≡ true → (a ≡ true) × (b ≡ true)
-both-true true b h = (refl, h)
-both-true false b h = absurd cc
-
 same-times : (p a b : Place) → same_place a b ≡ true → times_at p (Some a) ≡ times_at p (Some b)
 same-times p a b same =
-    let each = both-true (int_eq a.x b.x) (int_eq a.y b.y) same in
+    let each = both_true (int_eq a.x b.x) (int_eq a.y b.y) same in
     let across = int_eq_equiv.congr a.x b.x p.x each.0 in
     let up = int_eq_equiv.congr a.y b.y p.y each.1 in
     ap (λ (t : Bool). cond (t && int_eq a.y p.y) 1 0) across ∙ ap (λ (t : Bool). cond (int_eq b.x p.x && t) 1 0) up
@@ -195,9 +192,18 @@ line-begins arcs numbers is = record { both = tt; even = λ p. grown (named_ends
     grown : (n : ℕ) → n % 2 ≡ 0 → (n + 0 + 0) % 2 ≡ 0
     grown n h = omega (arith, h)
 
-pub ring-even : (arcs : List (List Place)) → All IsArc arcs → (t : Tree) (before after : PolygonRead) → HasEvenEnds arcs before.numbers
-    → ring_of arcs t before ≡ Ok after → HasEvenEnds arcs after.numbers
-ring-even arcs every t before after is h =
+-- the line of a ring that was read, which ends where it begins
+pub record RingLine (arcs : List (List Place)) (t : Tree) (before after : PolygonRead) : Type 0 where
+  pub trees : Trees
+  pub line : Line
+  pub walked : line_from arcs trees (no_line before.numbers before.references) ≡ Ok line
+  pub meets : is_same line.last line.first ≡ true
+  pub numbers_are : line.numbers ≡ after.numbers
+  pub references_are : line.references ≡ after.references
+
+pub ring-line : (arcs : List (List Place)) (t : Tree) (before after : PolygonRead)
+    → ring_of arcs t before ≡ Ok after → RingLine arcs t before after
+ring-line arcs t before after h =
     let listed =
     then-ok (list_of t)
     (λ trees. and_then (line_from arcs trees (no_line before.numbers before.references))
@@ -207,10 +213,20 @@ ring-even arcs every t before after is h =
     (λ line. and_then (closed t line) (λ ring. Ok (record { numbers = ring.numbers; references = ring.references }))) after listed.2 in
     let ends = then-ok (closed t walked.0) (λ ring. Ok (record { numbers = ring.numbers; references = ring.references })) after walked.2 in
     let closing = closed-fits t walked.0 ends.0 ends.1 in
-    let line = line-even arcs every listed.0 (no_line before.numbers before.references) walked.0
-    (line-begins arcs before.numbers is) walked.1 in
-    let even = ring-closes arcs walked.0.numbers walked.0.first walked.0.last line closing.0 in
-    let numbers : walked.0.numbers ≡ after.numbers = ap (λ (l : Line). l.numbers) closing.1
-    ∙ ap (λ (p : PolygonRead). p.numbers) (same-ok (record { numbers = ends.0.numbers; references = ends.0.references }) after ends.2)
-    in
-    subst (HasEvenEnds arcs) numbers even
+    let same = same-ok (record { numbers = ends.0.numbers; references = ends.0.references }) after ends.2 in
+    record {
+      trees = listed.0;
+      line = walked.0;
+      walked = walked.1;
+      meets = closing.0;
+      numbers_are = ap (λ (l : Line). l.numbers) closing.1 ∙ ap (λ (p : PolygonRead). p.numbers) same;
+      references_are = ap (λ (l : Line). l.references) closing.1 ∙ ap (λ (p : PolygonRead). p.references) same;
+    }
+
+pub ring-even : (arcs : List (List Place)) → All IsArc arcs → (t : Tree) (before after : PolygonRead) → HasEvenEnds arcs before.numbers
+    → ring_of arcs t before ≡ Ok after → HasEvenEnds arcs after.numbers
+ring-even arcs every t before after is h =
+    let ring = ring-line arcs t before after h in
+    let even = line-even arcs every ring.trees (no_line before.numbers before.references) ring.line
+    (line-begins arcs before.numbers is) ring.walked in
+    subst (HasEvenEnds arcs) ring.numbers_are (ring-closes arcs ring.line.numbers ring.line.first ring.line.last even ring.meets)

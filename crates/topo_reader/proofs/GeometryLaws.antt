@@ -25,7 +25,7 @@ use Rattle.topo_reader.specs.Geometries.{with_references, geometry_header, of_ki
 use Rattle.topo_reader.specs.Geometries.{geometries_of, objects_from, objects_of}
 use Rattle.arc_map.specs.Map.{IsArc}
 use Rattle.topo_reader.specs.Ends.{HasEvenEnds}
-use Rattle.topo_reader.proofs.EndLaws.{joined-fits, closed-fits, ring-even}
+use Rattle.topo_reader.proofs.EndLaws.{joined-fits, ring-line, ring-even}
 use Rattle.topo_reader.proofs.ArcLaws.{not-ok, same-ok, then-ok, counted-ok}
 
 -- ---- walks that end well
@@ -111,21 +111,11 @@ record IsPolygon (arcs : List (List Place)) (others : ℕ) (polygon : PolygonRea
 ring-keeps : (arcs : List (List Place)) (every : All IsArc arcs) (others : ℕ) (t : Tree) (before after : PolygonRead)
     → IsPolygon arcs others before → ring_of arcs t before ≡ Ok after → IsPolygon arcs others after
 ring-keeps arcs every others t before after are h =
-    let listed =
-    then-ok (list_of t)
-    (λ trees. and_then (line_from arcs trees (no_line before.numbers before.references))
-    (λ line. and_then (closed t line) (λ ring. Ok (record { numbers = ring.numbers; references = ring.references })))) after h
-    in
-    let walked = then-ok (line_from arcs listed.0 (no_line before.numbers before.references))
-    (λ line. and_then (closed t line) (λ ring. Ok (record { numbers = ring.numbers; references = ring.references }))) after listed.2 in
-    let ends = then-ok (closed t walked.0) (λ ring. Ok (record { numbers = ring.numbers; references = ring.references })) after walked.2 in
-    let ring : AreNamed (length arcs) others ends.0.numbers ends.0.references =
-    subst (λ (l : Line). AreNamed (length arcs) others l.numbers l.references) (closed-fits t walked.0 ends.0 ends.1).1
-    (line-keeps arcs others listed.0 (no_line before.numbers before.references) walked.0 are.named walked.1)
-    in
+    let ring = ring-line arcs t before after h in
+    let named = line-keeps arcs others ring.trees (no_line before.numbers before.references) ring.line are.named ring.walked in
     record {
-      named = subst (λ (p : PolygonRead). AreNamed (length arcs) others p.numbers p.references)
-          (same-ok (record { numbers = ends.0.numbers; references = ends.0.references }) after ends.2) ring;
+      named = subst (λ (n : ℕ). AreNamed (length arcs) others after.numbers n) ring.references_are
+          (subst (λ (ns : List ℕ). AreNamed (length arcs) others ns ring.line.references) ring.numbers_are named);
       even = ring-even arcs every t before after are.even h;
     }
 

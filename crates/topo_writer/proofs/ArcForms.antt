@@ -13,10 +13,6 @@ use Rattle.topo_writer.proofs.TreeArcs.{IsGridPlace, IsGridArc, written, coded-w
 
 -- ---- sizes
 
-record IsGrid (z : ℤ) : Type 0 where
-  low : neg_ℤ (pos (2 ^ 29)) ≤ℤ z
-  high : z ≤ℤ pos (2 ^ 29)
-
 grid-low : (z : ℤ) → is_grid_number z ≡ true → neg_ℤ (pos (2 ^ 29)) ≤ℤ z
 grid-low z grid = grind (arith, ints)
 

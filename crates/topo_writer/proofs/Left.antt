@@ -17,11 +17,6 @@ pub later-step : (coded : Bool) (p q : Place) (qs : List Place)
 later-step true p q qs = refl
 later-step false p q qs = refl
 
-pub later-at : (coded : Bool) (p d : Place) (qs : List Place) (i : ℕ) → i < length qs
-    → later_text coded p (drop i qs) ≡ codes "," ++ position_text (coded_position coded p (get_or qs i d))
-    ++ later_text coded (get_or qs i d) (drop (i + 1) qs)
-later-at coded p d qs i h = rw (add-one, drop-cons qs i d h) (later-step coded p (get_or qs i d) (drop (suc i) qs))
-
 -- the texts of the arcs, each behind a comma
 abbrev pub arcs_left : Bool → List (List Place) → List ℕ
 arcs_left coded arcs = behind_commas (map (arc_text coded) arcs)
@@ -61,7 +56,3 @@ pub goes-on : (before comma after part left more whole : List ℕ) → comma ≡
 goes-on before comma after part left more whole p q r s =
     let split = rw r at s in
     rw (q, p) (simp append_assoc (simp append_assoc at split))
-
-pub arc-some : (arc : List Place) → IsArc arc → 1 ≤ length arc
-arc-some [] h = absurd h
-arc-some (p ∷ ps) h = omega arith

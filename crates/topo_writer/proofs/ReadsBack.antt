@@ -136,7 +136,7 @@ record IsReadFrom (holder : Tree) (members : Entries) (t : TopologyRead) : Type 
   map_is : record { arcs = arcs; points = seen.points; polygons = seen.polygons; coded = coded } ≡ t.map
   at_is : extent_of value ≡ t.arcs_at
 
-found-once : (holder t : Tree) (l : Lookup) → at_found holder l ≡ Ok t → l ≡ OnceIn t
+pub found-once : (holder t : Tree) (l : Lookup) → at_found holder l ≡ Ok t → l ≡ OnceIn t
 found-once holder t NowhereIn h = not-ok _ t h
 found-once holder t (OnceIn u) h = ap OnceIn (same-ok u t h)
 found-once holder t (TwiceIn e) h = not-ok _ t h

@@ -13,6 +13,7 @@ use Rattle.grid_exact.specs.Geometry.{Place}
 use Rattle.grid_exact.specs.Walks.{EachEdge}
 use Rattle.grid_exact.proofs.Commons.{same_place as places-equal}
 use Rattle.arc_map.specs.Map.{IsArc}
+use Rattle.arc_map.proofs.Listing.{both_true}
 use Rattle.json_scan.specs.declared.whole.Whole.TheVariants as whole
 use Rattle.json_scan.specs.Tree.{Tree, NumberAt, ListAt, Trees, NoTrees, NextTree}
 use Rattle.topo_reader.specs.declared.fault.ReadFault.{ReadFault}
@@ -95,17 +96,13 @@ pub coded-written : (coded : Bool) (p : Place) (qs : List Place) → coded_posit
 coded-written true p qs = differences-written p qs
 coded-written false p qs = places-written p qs
 
-both-true : (a b : Bool) → (a && b) ≡ true → (a ≡ true) × (b ≡ true)
-both-true true b h = (refl, h)
-both-true false b h = absurd cc
-
 pub places-apart : (a b : Place) → a ≢ b → same_place a b ≡ false
 places-apart a b other = at_case (same_place a b) refl
   where
     at_case : (s : Bool) → same_place a b ≡ s → same_place a b ≡ false
     at_case false e = e
     at_case true e =
-        let each = both-true (int_eq a.x b.x) (int_eq a.y b.y) e in
+        let each = both_true (int_eq a.x b.x) (int_eq a.y b.y) e in
         absurd (other (places-equal a b ((Decides-int_eq a.x b.x).0 each.0) ((Decides-int_eq a.y b.y).0 each.1)))
 
 last-behind : (v w : Place) (ws : List Place) → last_of (v ∷ w ∷ ws) ≡ last_of (w ∷ ws)

@@ -39,8 +39,9 @@ fn write_arcs(out: &mut Vec<u8>, topology: &ArcMap) -> Result<(), AllocError>
 
 // Adds each arc but the first, behind a comma.
 fn write_later_arcs(out: &mut Vec<u8>, topology: &ArcMap) -> Result<(), AllocError>
-    ensures value { OnOk result (out.new.items ≡ out.old.items
-        ++ behind_commas (map (arc_text topology.now.coded) (drop 1 topology.now.arcs))) }
+    ensures value { OnOk result (out.new.items
+        ≡ out.old.items ++ behind_commas
+        (map (arc_text topology.now.coded) (drop 1 topology.now.arcs))) }
     ensures short { OnOk result (vec_len out.new
         ≤ vec_len out.old + 54 * sum_by length (drop 1 topology.now.arcs)) }
 {
@@ -83,8 +84,9 @@ fn write_positions(
     rest: &[Point],
     coded: bool,
 ) -> Result<(), AllocError>
-    ensures value { OnOk result (out.new.items ≡ out.old.items
-        ++ behind_commas (map position_text (coded_positions coded first rest.now))) }
+    ensures value { OnOk result (out.new.items
+        ≡ out.old.items ++ behind_commas
+        (map position_text (coded_positions coded first rest.now))) }
     ensures short { OnOk result (vec_len out.new ≤ vec_len out.old + 26 * length rest.now) }
 {
     let mut before = first;
@@ -97,8 +99,8 @@ fn write_positions(
 
 // Adds a comma, and the position p or its difference from the one before.
 fn write_next(out: &mut Vec<u8>, before: Point, p: Point, coded: bool) -> Result<(), AllocError>
-    ensures value { OnOk result (out.new.items ≡ out.old.items ++ codes ","
-        ++ position_text (coded_position coded before p)) }
+    ensures value { OnOk result (out.new.items
+        ≡ out.old.items ++ codes "," ++ position_text (coded_position coded before p)) }
     ensures short { OnOk result (vec_len out.new ≤ vec_len out.old + 26) }
 {
     let (x, y) = coded_numbers(before, p, coded);

@@ -21,8 +21,10 @@ pub fn write_number(out: &mut Vec<u8>, n: i64) -> Result<(), AllocError>
 /// Adds `[x,y]` to the text: at most 25 bytes where both are differences of coordinates. The only
 /// error is want of memory; the text may then end in a part of it.
 pub fn write_position(out: &mut Vec<u8>, x: i64, y: i64) -> Result<(), AllocError>
-    ensures text { OnOk result (out.new.items ≡ out.old.items
-        ++ position_text (record { x = x; y = y })) }
+    ensures text { OnOk result (out.new.items ≡ out.old.items ++ position_text (record {
+      x = x;
+      y = y;
+    })) }
     ensures short { OnOk result (IsDifference x → IsDifference y
         → vec_len out.new ≤ vec_len out.old + 25) }
 {

@@ -7,7 +7,7 @@ ghost use Rattle.side_wedge.specs.Lines.{IsAside};
 use crate::parts::point;
 use arc_map::{ArcMap, NoMemory};
 use chain_side::{Side, comes_before};
-use grid_exact::{Bound, Frame, Point, Weights, on_segment};
+use grid_exact::{Bound, Direction, Frame, Point, Weights, on_segment};
 use map_index::IndexedMap;
 use monotone_split::split;
 use side_wedge::{Beside, Wedge};
@@ -18,8 +18,7 @@ use std::test::Fail;
 // Whether a wedge admits v after it has taken p on this side.
 fn admits_after(
     rt: &impl Abort,
-    frame: Frame,
-    rising: bool,
+    direction: Direction,
     from: Point,
     p: Point,
     side: Side,
@@ -27,9 +26,9 @@ fn admits_after(
 ) -> bool
     requires { IsAside side }
 {
-    assert!(rt; comes_before(frame, rising, from, p));
-    assert!(rt; comes_before(frame, rising, from, v));
-    let mut wedge = Wedge::start(frame, from, rising);
+    assert!(rt; comes_before(direction, from, p));
+    assert!(rt; comes_before(direction, from, v));
+    let mut wedge = Wedge::start(direction, from);
     wedge.take_point(p, side);
     wedge.admits(v)
 }
@@ -37,17 +36,28 @@ fn admits_after(
 #[test]
 fn wedges_admit_points(rt: HostRuntime) -> Result<(), Fail> {
     let (low, p) = (point(0, 0)?, point(2, 1)?);
-    let plain = Frame::Plain;
-    assert!(rt; admits_after(&rt, plain, true, low, p, Side::Above, point(4, 0)?));
-    assert!(rt; !admits_after(&rt, plain, true, low, p, Side::Above, point(4, 2)?));
-    assert!(rt; !admits_after(&rt, plain, true, low, p, Side::Above, point(4, 3)?));
-    assert!(rt; !admits_after(&rt, plain, true, low, p, Side::Below, point(4, 0)?));
+    let east = Direction {
+        frame: Frame::Plain,
+        rising: true,
+    };
+    assert!(rt; admits_after(&rt, east, low, p, Side::Above, point(4, 0)?));
+    assert!(rt; !admits_after(&rt, east, low, p, Side::Above, point(4, 2)?));
+    assert!(rt; !admits_after(&rt, east, low, p, Side::Above, point(4, 3)?));
+    assert!(rt; !admits_after(&rt, east, low, p, Side::Below, point(4, 0)?));
     let right = point(4, 0)?;
-    assert!(rt; admits_after(&rt, plain, false, right, p, Side::Above, point(0, 1)?));
-    assert!(rt; !admits_after(&rt, plain, false, right, p, Side::Above, point(0, 2)?));
-    let (turned, q) = (Frame::Turned, point(1, 2)?);
-    assert!(rt; admits_after(&rt, turned, true, low, q, Side::Above, point(1, 4)?));
-    assert!(rt; !admits_after(&rt, turned, true, low, q, Side::Above, point(3, 4)?));
+    let west = Direction {
+        frame: Frame::Plain,
+        rising: false,
+    };
+    assert!(rt; admits_after(&rt, west, right, p, Side::Above, point(0, 1)?));
+    assert!(rt; !admits_after(&rt, west, right, p, Side::Above, point(0, 2)?));
+    let q = point(1, 2)?;
+    let north = Direction {
+        frame: Frame::Turned,
+        rising: true,
+    };
+    assert!(rt; admits_after(&rt, north, low, q, Side::Above, point(1, 4)?));
+    assert!(rt; !admits_after(&rt, north, low, q, Side::Above, point(3, 4)?));
     Ok(())
 }
 

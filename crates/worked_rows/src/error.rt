@@ -1,6 +1,5 @@
 //! Why the rows could not be run.
 
-use outside_io::NoMemory;
 use std::alloc::AllocError;
 use std::io;
 use thiserror::Error;
@@ -20,10 +19,4 @@ pub enum RowsError {
     /// There is no memory.
     #[error("no memory")]
     Memory(#[from(alloc)] AllocError),
-}
-
-impl From<NoMemory> for RowsError {
-    fn from(_: NoMemory) -> Self {
-        RowsError::Memory(AllocError)
-    }
 }

@@ -19,12 +19,12 @@ returns-clause-start c =
     let count = subject_count w s.chain ps s.weights c.requires.subject in
     let first = read_at ps 0 c.index-places-0.result (omega (arith, count)) c.index-places-0.is in
     let last = read_at ps (length ps - 1) c.index-places-places.result (omega (arith, count)) c.index-places-places.is in
-    let runs = subject_runs w s.chain ps s.weights c.comes_before-rising.result c.index-places-0.result c.index-places-places.result
-    c.requires.subject wide high first last (subst (λ (f : Frame). IsTrue c.comes_before-rising.result
-    ↔ IsBeforeIn f c.index-places-0.result c.index-places-places.result) c.frame-frame.ensures c.comes_before-rising.ensures) in
-    cone_starts c.start.result c.frame-frame.result c.comes_before-rising.result (place_at ps) (length ps) s.bound c.args.i
+    let runs = subject_runs w s.chain ps s.weights c.precedes-rising.result c.index-places-0.result c.index-places-places.result
+    c.requires.subject wide high first last (subst (λ (f : Frame). IsTrue c.precedes-rising.result
+    ↔ IsBeforeIn f c.index-places-0.result c.index-places-places.result) c.frame-frame.ensures c.precedes-rising.ensures) in
+    cone_starts c.start.result c.frame-frame.result c.precedes-rising.result (place_at ps) (length ps) s.bound c.args.i
     c.index-places-i.result c.start.ensures.origin (read_at ps c.args.i c.index-places-i.result c.requires.start c.index-places-i.is)
-    (subst (λ (f : Frame). RunsAlong f c.comes_before-rising.result (place_at ps) (length ps)) (sym c.frame-frame.ensures) runs)
+    (subst (λ (f : Frame). RunsAlong f c.precedes-rising.result (place_at ps) (length ps)) (sym c.frame-frame.ensures) runs)
 
 pub returns-clause-lets : goal.returns-clause-lets
 returns-clause-lets c = lets_all c.start.result (place_at c.args.subject.now.weighted.now) (length c.args.subject.now.weighted.now)

@@ -3,8 +3,9 @@ use Rattle.std.proofs.Common.{◌+◌, ◌-◌, ◌<◌, take, drop, length, ap,
 use Rattle.std.proofs.lemmas.Bool.{iff_false}
 use Rattle.sweep_index.specs.Walk.{items_left}
 use Rattle.arc_map.specs.Chains.{chain_at}
+use Rattle.arc_map.proofs.Chained.{length-chain_places}
 use Rattle.cert_checker.proofs.Opening.{double_not_open, double_read, open_from_tests, read_place, tests_from_open}
-use Rattle.cert_checker.proofs.Parts.{RunParts, places_count, run_parts}
+use Rattle.cert_checker.proofs.Parts.{RunParts, run_parts}
 use Rattle.cert_checker.proofs.Steps.{says_no}
 use Rattle.cert_checker.proofs.indexed.is_open.Goals as goal
 
@@ -35,8 +36,13 @@ returns c =
     let start = read_place w.chains k i ps c.index-chain-i.result c.chain-chain.ensures.places
     (omega (arith, c.requires.within, c.requires.order)) c.index-chain-i.is in
     let end = read_place w.chains k j ps c.index-chain-j.result c.chain-chain.ensures.places c.requires.within c.index-chain-j.is in
-    let size : j < length ps = omega (arith, c.requires.within, places_count (chain_at w.chains k), ap length c.chain-chain.ensures.places)
-    in
+    let size : j < length ps = omega (
+      arith,
+      c.requires.within,
+      length-chain_places (chain_at w.chains k),
+      ap length
+          c.chain-chain.ensures.places,
+    ) in
     let rest = take (j + 1 - (i + 1)) (drop (i + 1) ps) in
     let parts = subst (λ qs. RunParts qs i j first (take (c.args.j + 1 - (c.args.i + 1)) (drop (c.args.i + 1) c.chain-chain.result.now)))
     c.chain-chain.ensures.places (run_parts ps i j first c.requires.order size c.index-chain-i-2.is) in (

@@ -7,8 +7,8 @@ abbrev pub invariant-loop-low : goal.invariant-loop-low
 invariant-loop-low l = record {
   apart : l.low < l.high;
   in_chain : l.high < length l.chain;
-  from_start : ¬ (IsAlong l.frame l.rising l.p (vertex_at l.chain l.low));
-  to_end : ¬ (IsAlong l.frame l.rising (vertex_at l.chain l.high) l.p);
+  from_start : ¬ (IsAlong l.direction.frame l.direction.rising l.p (vertex_at l.chain l.low));
+  to_end : ¬ (IsAlong l.direction.frame l.direction.rising (vertex_at l.chain l.high) l.p);
 }
 
 abbrev pub decreases-loop-low : goal.decreases-loop-low

@@ -1,14 +1,42 @@
 -- One bit more is told; once the cone is closed, all are.
-use Rattle.std.proofs.Common.{◌≡◌, ◌⊎◌, inl, inr, ℕ, ◌+◌, ◌<◌, ◌≤◌, false, true, IsTrue, List, length, get_or, sym, subst, arith}
+use Rattle.std.proofs.Common.{◌≡◌, ◌⊎◌, inl, inr, ℕ, ◌+◌, ◌<◌, ◌≤◌, false, true, IsTrue, List, length, get_or, refl, sym, subst, arith}
 use Rattle.lane_kernels.specs.Places.{place_at}
 use Rattle.error_cone.specs.Courses.{IsConeFrom, LetsNear}
 use Rattle.error_cone.specs.declared.cone.Cone.{Cone}
 use Rattle.error_cone.proofs.Courses.{lets_later, none_near}
 use Rattle.shortcut_graph.specs.Weighed.{IsNearRun}
+use Rattle.shortcut_graph.specs.Corridor.{IsCorridor}
 use Rattle.shortcut_graph.proofs.Filling.{IsClearFrom, IsRowTo, IsWritten, SameRows, clear_later, clear_more, row_done, row_more, row_none}
 use Rattle.shortcut_graph.proofs.Filling.{same_more}
 use Rattle.shortcut_graph.proofs.pairs.set_row.Goals as goal
 use Rattle.shortcut_graph.proofs.pairs.set_row.Goals.{then-allows, else-allows+else-closes}
+
+pub loop-end-init : goal.loop-end-init
+loop-end-init c =
+    let r = c.args.ruler.now in
+    let start = c.args.start in
+    let clear = c.clear_row.new.self in
+    let words = c.set.new.self in
+    let size = c.requires.size in
+    let P : ℕ → Type 0 = λ j. (j ≡ start + 1) ⊎ (IsTrue (get_or c.args.is_open.now j false) × IsNearRun r.xs.now r.ys.now r.bound start j)
+    in
+    let written : IsWritten clear words start (start + 1) true = record { bit = c.set.ensures.bit; others = c.set.ensures.others } in
+    let none : IsRowTo P clear start (start + 1) = record { each = λ j low high. absurd (omega arith) } in
+    let row = row_more P clear words start (start + 1) (omega (arith, size, c.requires.start)) (omega (arith, size, c.requires.start))
+    written (inl refl) none in
+    let empty : IsClearFrom clear start (start + 1) = record { each = λ j low high. c.clear_row.ensures.row j high } in
+    let rest = clear_more clear words start (start + 1) true (omega (arith, size, c.requires.start)) written empty in
+    let same : SameRows c.args.rows.now clear start = record { each = c.clear_row.ensures.others } in
+    let two : start + 1 + 1 ≡ start + 2 = omega arith in
+    record {
+      row = record { each = λ j low high. row.each j low (omega arith) };
+      rest = record { each = λ j low high. rest.each j (omega arith) high };
+      others = same_more c.args.rows.now clear words start (start + 1) true written same;
+      corridor = subst (λ (n : ℕ). IsCorridor c.take.new.self r.xs.now r.ys.now r.bound start n) two
+          (c.take.ensures start c.start-corridor.ensures);
+      cone = c.requires.cone;
+      lets = c.requires.lets;
+    }
 
 pub returns-then-closes-clause-row : goal.returns-then-closes-clause-row
 returns-then-closes-clause-row c =

@@ -10,7 +10,7 @@ returns-clause-strays c =
     let old = c.find.new.strays.items in
     let new = c.sort_unstable_by_key.new.self.items in
     let moved = c.sort_unstable_by_key.ensures.permutation in
-    strays_sorted s.frame s.rising s.chain.now s.number s.steps c.args.map.now old new c.find.ensures.strays
+    strays_sorted s.direction.frame s.direction.rising s.chain.now s.number s.steps c.args.map.now old new c.find.ensures.strays
     (λ x has. Contains-permutation old new x moved has)
     (λ x has. Contains-permutation new old x (IsPermutation-sym old new moved) has)
 

@@ -8,7 +8,7 @@ loop-start-init c =
     let s = c.args.subject.now in
     record {
       within = omega (arith, c.requires.several);
-      taken = none_taken s.frame s.rising s.chain.now s.number s.steps c.args.map.now c.clear.new.self.items (search rules);
+      taken = none_taken s.direction.frame s.direction.rising s.chain.now s.number s.steps c.args.map.now c.clear.new.self.items (search rules);
       count = search rules;
       capacity = search rules;
     }
@@ -24,5 +24,5 @@ loop-start-preserved c = record {
 pub returns-clause-strays : goal.returns-clause-strays
 returns-clause-strays c t =
     let s = c.args.subject.now in
-    all_taken s.frame s.rising s.chain.now s.number s.steps c.args.map.now c.loop-start.start c.loop-start.strays.items
+    all_taken s.direction.frame s.direction.rising s.chain.now s.number s.steps c.args.map.now c.loop-start.start c.loop-start.strays.items
     (omega (arith, c.loop-start-test.false)) c.loop-start.invariant.taken

@@ -1,5 +1,6 @@
 -- A limit that has p on its hand is the tighter of the two.
-use Rattle.side_wedge.proofs.Tighter.{denied, keeps_limit, takes_limit}
+use Rattle.grid_exact.proofs.Orders.{denied}
+use Rattle.side_wedge.proofs.Tighter.{keeps_limit, takes_limit}
 use Rattle.side_wedge.proofs.limits.tighter_of.Goals as goal
 
 pub returns-then-is_on_hand : goal.returns-then-is_on_hand

@@ -2,8 +2,8 @@
 use Rattle.std.proofs.Common.{◌≡◌, ◌∙◌, ℕ, ◌+◌, ◌-◌, length, subst, sym, ap, arith, Some}
 use Rattle.std.proofs.lemmas.List.{get_or_read}
 use Rattle.grid_exact.specs.Geometry.{Place}
+use Rattle.grid_exact.proofs.Orders.{denied}
 use Rattle.chain_side.specs.Along.{IsAlong, vertex_at}
-use Rattle.side_wedge.proofs.Tighter.{denied}
 use Rattle.side_wedge.proofs.Spanning.{over_past_start, over_before_end, is_over}
 use Rattle.side_wedge.proofs.strays.edge_under.Goals as goal
 use Rattle.side_wedge.proofs.strays.edge_under.Goals.{then-comes_before-via-then-comes_before}
@@ -12,7 +12,7 @@ use Rattle.side_wedge.proofs.strays.edge_under.Goals.{then-comes_before-via-else
 pub returns-then-comes_before-clause-all : goal.returns-then-comes_before-clause-all
 returns-then-comes_before-clause-all c s runs over =
     let chain = c.args.chain.now in
-    let frame = c.args.frame in let rising = c.args.rising in let p = c.args.p in
+    let frame = c.args.direction.frame in let rising = c.args.direction.rising in let p = c.args.p in
     let first : c.index-chain-0.result ≡ vertex_at chain 0 = get_or_read chain 0 _ (omega arith) c.index-chain-0.is _ in
     elim c.then-comes_before.branch [
       | then-comes_before-via-then-comes_before w ↦ absurd (over_past_start frame rising chain p s runs over
@@ -27,13 +27,13 @@ returns-then-comes_before-clause-all c s runs over =
 pub returns-then-is_between-clause-all : goal.returns-then-is_between-clause-all
 returns-then-is_between-clause-all c s runs over =
     let found = c.edge_at-edge.ensures in
-    ap Some (is_over c.args.frame c.args.rising c.args.chain.now c.args.p c.edge_at-edge.result s runs over found.in_chain found.from_start
-    found.to_end)
+    ap Some (is_over c.args.direction.frame c.args.direction.rising c.args.chain.now c.args.p c.edge_at-edge.result s runs over
+    found.in_chain found.from_start found.to_end)
 
 pub returns-else-is_between-clause-all : goal.returns-else-is_between-clause-all
 returns-else-is_between-clause-all c s runs over =
     let chain = c.args.chain.now in
-    let frame = c.args.frame in let rising = c.args.rising in let p = c.args.p in
+    let frame = c.args.direction.frame in let rising = c.args.direction.rising in let p = c.args.p in
     let found = c.edge_at-edge.ensures in
     let inside = found.in_chain in
     let e = c.edge_at-edge.result in

@@ -16,6 +16,6 @@ returns c =
     let first : c.index-chain-0.result ≡ vertex_at chain 0 = get_or_read chain 0 _ (omega arith) c.index-chain-0.is _ in
     let last : c.index-chain-chain.result ≡ vertex_at chain (length chain - 1) =
     get_or_read chain (length chain - 1) _ (omega arith) c.index-chain-chain.is _ in
-    runs_by_ends frame chain c.comes_before.result c.requires
-    (subst (λ (x : Place). IsTrue c.comes_before.result ↔ IsBeforeIn frame x (vertex_at chain (length chain - 1))) first
-    (subst (λ (y : Place). IsTrue c.comes_before.result ↔ IsBeforeIn frame c.index-chain-0.result y) last c.comes_before.ensures))
+    runs_by_ends frame chain c.precedes.result c.requires
+    (subst (λ (x : Place). IsTrue c.precedes.result ↔ IsBeforeIn frame x (vertex_at chain (length chain - 1))) first
+    (subst (λ (y : Place). IsTrue c.precedes.result ↔ IsBeforeIn frame c.index-chain-0.result y) last c.precedes.ensures))

@@ -12,21 +12,18 @@ use Rattle.chain_replace.proofs.run.RunState.new.Goals as goal
 abbrev records_for : ℕ → ℕ → Records
 records_for chains places = record { entries = []; room = chains; kept_room = places; layers_room = places }
 
-pub build-requires : goal.build-requires
-build-requires c = subst (λ (n : Map). AreChainsIn n c.in_ok-chains.chains.items) (c.map.ensures.same ∙ sym c.into_map.ensures)
-    c.in_ok-chains.ensures.chains
-
 pub invariant_of-result : goal.invariant_of-result
 invariant_of-result c =
     let m = c.args.partly.map in
     let refs = c.in_ok-chains.chains.items in
-    let chains = subst (λ (n : Map). AreChainsIn n refs) c.map.ensures.same c.in_ok-chains.ensures.chains in
-    let was = subst (λ (hs : List ℕ). IsMapArranged hs m) (sym (c.in_ok-held.ensures ∙ c.held.ensures)) c.map.ensures.arranged in
+    let same = c.into_parts-map.ensures.map in
+    let chains = subst (λ (n : Map). AreChainsIn n refs) same c.in_ok-chains.ensures.chains in
+    let was = subst (λ (n : Map). IsMapArranged c.into_parts-map.result.1 n) same c.into_parts-map.ensures.arranged in
     let room = c.chain_count.ensures.value in
     let vertices = c.vertex_count-vertices.ensures in
     under_way_start _ m refs
     (record {
-      work = c.in_ok-map.ensures ∙ ap (λ (n : Map). work_of n refs) c.into_map.ensures;
+      work = c.in_ok-map.ensures ∙ ap (λ (n : Map). work_of n refs) same;
       next = refl;
       items = omega (arith, c.in_ok-finder.ensures, c.item_count.ensures);
       records = c.in_ok-records.ensures

@@ -1,5 +1,6 @@
 use Rattle.std.proofs.Common.{◌≡◌, ℕ, List, ◌≤◌, ◌+◌, vec_len, arith}
-use Rattle.map_gen.proofs.Lists.{left, left-at, list-done, goes-on, position_text_at, wavy-list}
+use Rattle.topo_writer.proofs.Left.{goes-on}
+use Rattle.map_gen.proofs.Lists.{left, left-at, list-done, position_text_at, wavy-list}
 use Rattle.map_gen.proofs.lattice.Lattice.write_arc.Goals as goal
 
 pub loop-k-preserved : goal.loop-k-preserved

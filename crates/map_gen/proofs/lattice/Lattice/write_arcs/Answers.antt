@@ -1,6 +1,7 @@
 use Rattle.std.proofs.Common.{◌≡◌, ℕ, List, ◌<◌, ◌≤◌, ◌+◌, vec_len, arith}
+use Rattle.topo_writer.proofs.Left.{goes-on}
 use Rattle.map_gen.specs.Make.{wavy_text, arc_count}
-use Rattle.map_gen.proofs.Lists.{left, left-at, list-done, goes-on}
+use Rattle.map_gen.proofs.Lists.{left, left-at, list-done}
 use Rattle.map_gen.proofs.lattice.Lattice.write_arcs.Goals as goal
 
 pub loop-arc-preserved : goal.loop-arc-preserved

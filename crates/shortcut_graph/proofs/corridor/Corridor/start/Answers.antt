@@ -7,8 +7,8 @@ use Rattle.shortcut_graph.proofs.corridor.Corridor.start.Goals as goal
 
 pub returns : goal.returns
 returns c =
-    let heading = c.args.heading in
-    no_vertex c.wide.result c.args.ruler.now.xs.now c.args.ruler.now.ys.now c.args.ruler.now.bound c.args.start heading c.look.result
-    c.wide.ensures.heading c.wide.ensures.origin
-    (c.look.ensures ∙ ap (λ (p : Place). seen_along heading p) c.point_at-from.ensures)
+    let direction = c.args.direction in
+    no_vertex c.wide.result c.args.ruler.now.xs.now c.args.ruler.now.ys.now c.args.ruler.now.bound c.args.start direction c.look.result
+    c.wide.ensures.direction c.wide.ensures.origin
+    (c.look.ensures ∙ ap (λ (p : Place). seen_along direction p) c.point_at-from.ensures)
     c.wide.ensures.past

@@ -11,9 +11,9 @@ returns c i corridor =
     let old = c.args.self.now in
     let xs = c.args.ruler.now.xs.now in
     let ys = c.args.ruler.now.ys.now in
-    let seen : c.look-place.result ≡ seen_along old.heading (place_at xs ys c.args.vertex) = c.look-place.ensures
-    ∙ ap (λ (p : Place). seen_along old.heading p) c.point_at.ensures in
-    one_more old c.narrowed.result xs ys c.args.ruler.now.bound i c.args.vertex c.narrowed.ensures.heading c.narrowed.ensures.origin (λ t.
+    let seen : c.look-place.result ≡ seen_along old.direction (place_at xs ys c.args.vertex) = c.look-place.ensures
+    ∙ ap (λ (p : Place). seen_along old.direction p) c.point_at.ensures in
+    one_more old c.narrowed.result xs ys c.args.ruler.now.bound i c.args.vertex c.narrowed.ensures.direction c.narrowed.ensures.origin (λ t.
     c.narrowed.ensures.past)
     (λ v keeps.
     let both = c.narrowed.ensures.near v keeps in
@@ -24,8 +24,8 @@ returns-else-not-within c i corridor =
     let old = c.args.self.now in
     let xs = c.args.ruler.now.xs.now in
     let ys = c.args.ruler.now.ys.now in
-    let seen : c.look-place.result ≡ seen_along old.heading (place_at xs ys c.args.vertex) = c.look-place.ensures
-    ∙ ap (λ (p : Place). seen_along old.heading p) c.point_at.ensures in
+    let seen : c.look-place.result ≡ seen_along old.direction (place_at xs ys c.args.vertex) = c.look-place.ensures
+    ∙ ap (λ (p : Place). seen_along old.direction p) c.point_at.ensures in
     let near : IsWithin old.origin old.origin c.look-place.result c.args.ruler.now.bound = c.within.ensures.0 c.if-not-within.false in
     one_beside old xs ys c.args.ruler.now.bound i c.args.vertex
     (subst (λ (p : Place). IsWithin old.origin old.origin p c.args.ruler.now.bound) seen near) corridor

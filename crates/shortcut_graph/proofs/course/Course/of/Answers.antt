@@ -19,7 +19,7 @@ returns c =
     let chain = chain_at c.args.map.now.chains c.args.k in
     let weighed = c.requires.weighed in
     let frame = c.frame-frame.result in
-    let rising = c.comes_before.result in
+    let rising = c.precedes-rising.result in
     let last = length r.xs.now - 1 in
     let count : length c.chain.result.now - 1 ≡ length r.xs.now - 1 = omega (arith, ap length c.chain.ensures.places, weighed.count) in
     let at_last = c.point_at-last.ensures ∙ ap (place_at r.xs.now r.ys.now) count in
@@ -28,7 +28,7 @@ returns c =
     let known : frame ≡ chain.frame = c.frame-frame.ensures in
     let test : IsTrue rising ↔ IsBeforeIn frame (place_at r.xs.now r.ys.now 0) (place_at r.xs.now r.ys.now last) =
     subst (λ (p : Place). IsTrue rising ↔ IsBeforeIn frame p (place_at r.xs.now r.ys.now last)) c.point_at-first.ensures
-    (subst (λ (p : Place). IsTrue rising ↔ IsBeforeIn frame c.point_at-first.result p) at_last c.comes_before.ensures) in
+    (subst (λ (p : Place). IsTrue rising ↔ IsBeforeIn frame c.point_at-first.result p) at_last c.precedes-rising.ensures) in
     weighted_runs r.weights.x r.weights.y frame rising chain.first.place (places chain.rest) nowhere (place_at r.xs.now r.ys.now)
     (length r.xs.now) wide high
     (subst (λ (f : Frame). IsMonotone f chain.first.place (places chain.rest)) (sym known) (c.chain.ensures.chains.monotone c.args.k))

@@ -6,8 +6,9 @@ use Rattle.side_wedge.proofs.beside.Beside.consistent_from.Goals as goal
 pub write_row-requires-clause-past : goal.write_row-requires-clause-past
 write_row-requires-clause-past c s hand p low within stands =
     let w = c.args.map.now in
-    past_vertex w.chains w.read.points c.args.k c.args.self.now c.frame-frame.result c.rises.result c.chain-chain.result.now c.args.i s hand
-    p (c.frame-frame.ensures ∙ c.requires.beside.frame) c.chain-chain.ensures.places c.requires.beside c.rises.ensures low within stands
+    past_vertex w.chains w.read.points c.args.k c.args.self.now c.frame-frame.result c.rises-rising.result c.chain-chain.result.now c.args.i
+    s hand p (c.frame-frame.ensures ∙ c.requires.beside.frame) c.chain-chain.ensures.places c.requires.beside c.rises-rising.ensures low
+    within stands
 
 pub returns-then-is_empty-clause-consistent : goal.returns-then-is_empty-clause-consistent
 returns-then-is_empty-clause-consistent c j low high pair = c.allow_from.ensures.set j (omega arith) high

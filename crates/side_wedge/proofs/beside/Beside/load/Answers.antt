@@ -42,9 +42,9 @@ returns-clause-beside c =
       starts = c.write_starts.new.starts.items;
     } in
     let steps = c.of.result in
-    laid_beside w c.args.k c.rises.result steps strays b
-    (laid_by w c.args.k c.rises.result steps strays b c.chain-chain.result.now rows c.frame-frame.ensures c.chain-chain.ensures.places refl
-    c.rises.ensures c.gather.ensures.strays starts of c.chain-chain.ensures.edges)
+    laid_beside w c.args.k c.rises-rising.result steps strays b
+    (laid_by w c.args.k c.rises-rising.result steps strays b c.chain-chain.result.now rows c.frame-frame.ensures c.chain-chain.ensures.places refl
+    c.rises-rising.ensures c.gather.ensures.strays starts of c.chain-chain.ensures.edges)
 
 pub returns-clause-reach : goal.returns-clause-reach
 returns-clause-reach c =
@@ -65,7 +65,7 @@ returns-clause-reach c =
     } in
     let steps = c.of.result in
     let told = c.of.ensures in
-    laid_reach w c.args.k c.rises.result steps strays b c.args.weights c.args.bound
+    laid_reach w c.args.k c.rises-rising.result steps strays b c.args.weights c.args.bound
     (record {
       across = told.across;
       up = told.up;
@@ -74,5 +74,5 @@ returns-clause-reach c =
       bound_low =
           told.in_range.2;
     })
-    (laid_by w c.args.k c.rises.result steps strays b c.chain-chain.result.now rows c.frame-frame.ensures c.chain-chain.ensures.places refl
-    c.rises.ensures c.gather.ensures.strays starts of c.chain-chain.ensures.edges)
+    (laid_by w c.args.k c.rises-rising.result steps strays b c.chain-chain.result.now rows c.frame-frame.ensures c.chain-chain.ensures.places refl
+    c.rises-rising.ensures c.gather.ensures.strays starts of c.chain-chain.ensures.edges)

@@ -10,8 +10,9 @@ use Rattle.side_wedge.proofs.beside.Beside.write_row.Goals as goal
 pub narrow-requires-clause-past : goal.narrow-requires-clause-past
 narrow-requires-clause-past c hand p stands =
     let edge = c.loop-edge.edge in
-    past_of c.loop-edge.wedge c.args.frame c.args.rising (vertex_at c.args.chain.now c.args.i) p c.loop-edge.invariant.origin
-    (c.requires.past edge hand p c.loop-edge.invariant.reached (omega (arith, c.loop-edge-test.true)) stands)
+    past_of c.loop-edge.wedge c.args.direction.frame c.args.direction.rising (vertex_at c.args.chain.now c.args.i) p
+    c.loop-edge.invariant.origin (c.requires.past edge hand p c.loop-edge.invariant.reached (omega (arith, c.loop-edge-test.true))
+    stands)
 
 pub admits-requires : goal.admits-requires
 admits-requires c =
@@ -21,10 +22,10 @@ admits-requires c =
     let low = c.loop-edge.invariant.reached in
     let within : edge + 1 < length chain = omega (arith, c.loop-edge-test.true) in
     let v : c.index-chain-edge.result ≡ vertex_at chain (edge + 1) = get_or_read chain (edge + 1) _ within c.index-chain-edge.is _ in
-    let now = starts_still c.loop-edge.wedge c.narrow.new.wedge c.args.frame c.args.rising start c.loop-edge.invariant.origin
-    c.narrow.ensures.origin in
-    past_of c.narrow.new.wedge c.args.frame c.args.rising start c.index-chain-edge.result now
-    (subst (λ (x : Place). IsAlong c.args.frame c.args.rising start x) (sym v)
+    let now = starts_still c.loop-edge.wedge c.narrow.new.wedge c.args.direction.frame c.args.direction.rising start
+    c.loop-edge.invariant.origin c.narrow.ensures.origin in
+    past_of c.narrow.new.wedge c.args.direction.frame c.args.direction.rising start c.index-chain-edge.result now
+    (subst (λ (x : Place). IsAlong c.args.direction.frame c.args.direction.rising start x) (sym v)
     (c.requires.runs c.args.i (edge + 1) (omega arith) within))
 
 pub loop-edge-preserved : goal.loop-edge-preserved
@@ -32,7 +33,7 @@ loop-edge-preserved c =
     let b = c.args.self.now in
     let edge = c.loop-edge.edge in
     let chain = c.args.chain.now in
-    let frame = c.args.frame in let rising = c.args.rising in let i = c.args.i in
+    let frame = c.args.direction.frame in let rising = c.args.direction.rising in let i = c.args.i in
     let start = vertex_at chain i in
     let h = c.loop-edge.invariant in
     let low = h.reached in
