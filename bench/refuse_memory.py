@@ -4,8 +4,9 @@
     python3 bench/refuse_memory.py PROGRAM MAP BOUND
 
 PROGRAM is the built command, MAP an arranged map with a polygon. `simplify`, `layers`, `check`,
-`faces`, `dissolve` and `pyramid` of the map, `make` and `demo` are run once with all memory, and
-then with the first, second, third .. demand refused, until no demand is left. Each run has to end with status 10 and nothing on
+`faces`, `dissolve` and `pyramid` of the map, `build` of two squares, `make` and `demo` are run
+once with all memory, and then with the first, second, third .. demand refused, until no demand
+is left. Each run has to end with status 10 and nothing on
 standard output, and with no message but `no memory`. One other end is right: as with all
 memory, where a list that is refused a generous growth asks again for what it needs. Wants gcc,
 for the small library that refuses."""
@@ -47,6 +48,12 @@ int posix_memalign(void **to, size_t align, size_t size) {
     return *to ? 0 : ENOMEM;
 }
 """
+
+# Two squares with a common side, in GeoJSON.
+SQUARES = """{"type":"MultiPolygon","coordinates":[
+    [[[0,0],[2,0],[2,2],[0,2],[0,0]]],
+    [[[2,0],[4,0],[4,2],[2,2],[2,0]]]
+]}"""
 
 # So many runs in a row with no difference, and no demand is left.
 QUIET = 8
@@ -114,12 +121,15 @@ def forms(program: str, path: str, bound: str, folder: pathlib.Path) -> list[lis
     for form in ("simplify", "layers"):
         made[form] = str(folder / form)
         pathlib.Path(made[form]).write_bytes(run([program, form, bound, path]).out)
+    squares = folder / "squares"
+    squares.write_text(SQUARES)
     return [
         ["simplify", bound, path],
         ["layers", bound, path],
         ["check", bound, path, made["simplify"], made["layers"]],
         ["faces", path],
         ["dissolve", "0", path],
+        ["build", str(squares)],
         ["pyramid", f"{bound},{int(bound) + 4}", path],
         ["make", "1", "1", "7"],
         ["demo", "1", "1", "7", "100"],

@@ -124,12 +124,14 @@ beyond_one_hand Plain false chain p (North all) = record {
 beyond_one_hand Turned true chain p (South all) = record {
   hand = Left;
   all = λ i j wi wj h k.
-      absurd (none_west (turned (vertex_at chain i)) (turned (vertex_at chain j)) (turned p) h (at_vertex (λ v. p.y <ℤ v.y) chain i all wi));
+      absurd (none_west (turned (vertex_at chain i)) (turned (vertex_at chain j)) (turned p) h
+      (at_vertex (λ v. p.y <ℤ v.y) chain i all wi));
 }
 beyond_one_hand Turned true chain p (North all) = record {
   hand = Left;
   all = λ i j wi wj h k.
-      absurd (none_east (turned (vertex_at chain i)) (turned (vertex_at chain j)) (turned p) k (at_vertex (λ v. v.y <ℤ p.y) chain j all wj));
+      absurd (none_east (turned (vertex_at chain i)) (turned (vertex_at chain j)) (turned p) k
+      (at_vertex (λ v. v.y <ℤ p.y) chain j all wj));
 }
 beyond_one_hand Turned true chain p (West all) = record {
   hand = Left;
@@ -146,12 +148,14 @@ beyond_one_hand Turned true chain p (East all) = record {
 beyond_one_hand Turned false chain p (South all) = record {
   hand = Left;
   all = λ i j wi wj h k.
-      absurd (none_west (turned (vertex_at chain j)) (turned (vertex_at chain i)) (turned p) k (at_vertex (λ v. p.y <ℤ v.y) chain j all wj));
+      absurd (none_west (turned (vertex_at chain j)) (turned (vertex_at chain i)) (turned p) k
+      (at_vertex (λ v. p.y <ℤ v.y) chain j all wj));
 }
 beyond_one_hand Turned false chain p (North all) = record {
   hand = Left;
   all = λ i j wi wj h k.
-      absurd (none_east (turned (vertex_at chain j)) (turned (vertex_at chain i)) (turned p) h (at_vertex (λ v. v.y <ℤ p.y) chain i all wi));
+      absurd (none_east (turned (vertex_at chain j)) (turned (vertex_at chain i)) (turned p) h
+      (at_vertex (λ v. v.y <ℤ p.y) chain i all wi));
 }
 beyond_one_hand Turned false chain p (West all) = record {
   hand = Right;

@@ -34,7 +34,8 @@ pub fn gather(strays: &mut Vec<Stray>, subject: &Subject<'_>, map: &IndexedMap)
     requires several { 2 ≤ length subject.now.chain.now }
     requires short { length subject.now.chain.now ≤ 1024 }
     requires room { items_in map.now ≤ vec_capacity strays.old }
-    ensures strays { AreMapStrays subject.now.direction.frame subject.now.direction.rising subject.now.chain.now
+    ensures strays { AreMapStrays subject.now.direction.frame subject.now.direction.rising
+        subject.now.chain.now
         subject.now.number subject.now.steps map.now strays.new.items }
     ensures sorted { IsNonDecreasingBy (λ x. x.row) strays.new.items }
     ensures count { vec_len strays.new ≤ items_in map.now }
@@ -49,7 +50,8 @@ fn find(strays: &mut Vec<Stray>, subject: &Subject<'_>, map: &IndexedMap)
     requires several { 2 ≤ length subject.now.chain.now }
     requires short { length subject.now.chain.now ≤ 1024 }
     requires room { items_in map.now ≤ vec_capacity strays.old }
-    ensures strays { AreMapStrays subject.now.direction.frame subject.now.direction.rising subject.now.chain.now
+    ensures strays { AreMapStrays subject.now.direction.frame subject.now.direction.rising
+        subject.now.chain.now
         subject.now.number subject.now.steps map.now strays.new.items }
     ensures count { vec_len strays.new ≤ items_in map.now }
     ensures capacity { vec_capacity strays.new ≡ vec_capacity strays.old }
@@ -77,7 +79,8 @@ fn take_blocks(
     requires round { All (IsInBox whole.now.low whole.now.high) subject.now.chain.now }
     requires size { 0 < size }
     ensures strays { IsTrue result
-        → AreMapStrays subject.now.direction.frame subject.now.direction.rising subject.now.chain.now subject.now.number
+        → AreMapStrays subject.now.direction.frame subject.now.direction.rising
+        subject.now.chain.now subject.now.number
         subject.now.steps map.now strays.new.items }
     ensures count { vec_len strays.new ≤ items_in map.now }
     ensures capacity { vec_capacity strays.new ≡ vec_capacity strays.old }
@@ -112,9 +115,11 @@ fn take_block(
     requires order { start < end }
     requires within { end < length subject.now.chain.now }
     ensures strays { IsTrue result
-        → AreStraysTo subject.now.direction.frame subject.now.direction.rising subject.now.chain.now subject.now.number
+        → AreStraysTo subject.now.direction.frame subject.now.direction.rising subject.now.chain.now
+        subject.now.number
         subject.now.steps map.now start strays.old.items
-        → AreStraysTo subject.now.direction.frame subject.now.direction.rising subject.now.chain.now subject.now.number
+        → AreStraysTo subject.now.direction.frame subject.now.direction.rising subject.now.chain.now
+        subject.now.number
         subject.now.steps map.now end strays.new.items }
     ensures count { vec_len strays.new ≤ items_in map.now }
     ensures capacity { vec_capacity strays.new ≡ vec_capacity strays.old }
@@ -136,7 +141,8 @@ fn take_whole(strays: &mut Vec<Stray>, subject: &Subject<'_>, map: &IndexedMap, 
     requires short { length subject.now.chain.now ≤ 1024 }
     requires room { items_in map.now ≤ vec_capacity strays.old }
     requires round { All (IsInBox whole.now.low whole.now.high) subject.now.chain.now }
-    ensures strays { AreMapStrays subject.now.direction.frame subject.now.direction.rising subject.now.chain.now
+    ensures strays { AreMapStrays subject.now.direction.frame subject.now.direction.rising
+        subject.now.chain.now
         subject.now.number subject.now.steps map.now strays.new.items }
     ensures count { vec_len strays.new ≤ items_in map.now }
     ensures capacity { vec_capacity strays.new ≡ vec_capacity strays.old }
@@ -165,7 +171,8 @@ fn collect(
     requires room { room ≤ vec_capacity strays.old }
     requires count { vec_len strays.old ≤ room }
     ensures strays { IsTrue result
-        → AreStraysOf subject.now.direction.frame subject.now.direction.rising subject.now.chain.now subject.now.number
+        → AreStraysOf subject.now.direction.frame subject.now.direction.rising subject.now.chain.now
+        subject.now.number
         subject.now.steps part.now strays.old.items (items_left walk.entry) strays.new.items }
     ensures all { length strays.old.items + length (items_left walk.entry) ≤ room → IsTrue result }
     ensures count { vec_len strays.new ≤ room }
@@ -188,7 +195,8 @@ fn near_stray(subject: &Subject<'_>, part: &[Point], item: Item) -> Option<Stray
         subject.now.chain.now subject.now.number item) }
     ensures all { (s : ℕ) (hand : Hand)
         → RunsAlong subject.now.direction.frame subject.now.direction.rising subject.now.chain.now
-        → IsStrayItem subject.now.direction.frame subject.now.direction.rising subject.now.chain.now subject.now.number
+        → IsStrayItem subject.now.direction.frame subject.now.direction.rising subject.now.chain.now
+        subject.now.number
         item s hand → IsNearSomeEdge subject.now.steps part.now item.at
         → result ≡ Some (stray s hand item.at) }
 {
@@ -198,12 +206,7 @@ fn near_stray(subject: &Subject<'_>, part: &[Point], item: Item) -> Option<Stray
     if !may_reach(part, subject.steps, item.at) {
         return None;
     }
-    stray_of(
-        subject.chain,
-        subject.direction,
-        subject.number,
-        item,
-    )
+    stray_of(subject.chain, subject.direction, subject.number, item)
 }
 
 // Whether p is at an end of the chain, so that it is over no edge of it.

@@ -20,8 +20,10 @@ pub struct Wedge {
     origin: Point,
     left: Option<Point>,
     right: Option<Point>,
-    pub ghost left_past: { ForSome left (λ p. IsTrue (is_along direction.frame direction.rising origin p)) },
-    pub ghost right_past: { ForSome right (λ p. IsTrue (is_along direction.frame direction.rising origin p)) },
+    pub ghost left_past: { ForSome left (λ p.
+        IsTrue (is_along direction.frame direction.rising origin p)) },
+    pub ghost right_past: { ForSome right (λ p.
+        IsTrue (is_along direction.frame direction.rising origin p)) },
 }
 
 impl Wedge {
@@ -48,7 +50,8 @@ impl Wedge {
         requires side { IsAside side }
         ensures lets { (v : Place) → IsPast self.new v → Lets self.new v
             ↔ (Lets self.old v × IsBesideWay self.old v p side) }
-        ensures origin { StartsAt self.new self.old.direction.frame self.old.direction.rising self.old.origin }
+        ensures origin { StartsAt self.new self.old.direction.frame self.old.direction.rising
+            self.old.origin }
     {
         match hand_of(self.direction, side) {
             Hand::Left => self.left = Some(tighter(self.origin, self.left, p, Hand::Left)),
@@ -79,7 +82,8 @@ impl Wedge {
         requires past { EachPlace (IsPast self.old) xs.now ys.now }
         ensures lets { (v : Place) → IsPast self.new v → Lets self.new v
             ↔ (Lets self.old v × EachPlace (IsOnSide hand self.old.origin v) xs.now ys.now) }
-        ensures origin { StartsAt self.new self.old.direction.frame self.old.direction.rising self.old.origin }
+        ensures origin { StartsAt self.new self.old.direction.frame self.old.direction.rising
+            self.old.origin }
     {
         match hand {
             Hand::Left => self.left = tightest(self.origin, self.left, xs, ys, Hand::Left),

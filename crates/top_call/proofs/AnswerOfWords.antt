@@ -19,15 +19,17 @@ use Rattle.top_call.specs.declared.status.Role.{Role}
 use Rattle.top_call.specs.declared.status.Role.TheVariants.{File, Out, Cert}
 use Rattle.top_call.specs.declared.status.Status.{Status}
 use Rattle.top_call.specs.declared.status.Status.TheVariants.{TooLarge}
-use Rattle.top_call.specs.Words.{Form, Simplify, Layers, Check, Faces, Make, Demo, Dissolve, Pyramid, form_of}
+use Rattle.top_call.specs.Words.{Form, Simplify, Layers, Check, Faces, Make, Demo, Dissolve, Build, Pyramid, form_of}
 use Rattle.top_call.specs.Reading.{Named, named, limit_of, IsWithin, IsPast, IsFirstPast, IsFirstUnheld, Read, read_as, AreRead, AreShort}
 use Rattle.top_call.specs.Maps.{IsRefusal, scales_of}
+use Rattle.top_call.specs.Built.{IsGeoRefusal, IsBuiltOf}
 use Rattle.top_call.specs.Answers.{Answer, refused, done, told, plain, terms_of, version_of, text_with, faces_text, position_count}
 use Rattle.top_call.specs.Answers.{demo_text, IsRun, IsSimplified, IsCertified, IsFaced, IsDemoed, IsMapAnswer, Refused, Written}
-use Rattle.top_call.specs.Answers.{IsCheckAnswer, RefusedFile, Told, IsChecked, NotCertificate, IsRefuted, IsCompared, IsDissolveAnswer}
-use Rattle.top_call.specs.Answers.{IsRanked, IsWorkAnswer, IsFormAnswer, NotHeld, TooLong, Worked, IsAnswerBy}
+use Rattle.top_call.specs.Answers.{IsCheckAnswer, RefusedFile, Told, IsChecked, NotCertificate, IsRefuted, IsCompared, IsTextAnswer}
+use Rattle.top_call.specs.Answers.{IsBorderRefusal, IsDissolved, IsRanked, IsWorkAnswer, IsFormAnswer, NotHeld, TooLong, Worked, IsAnswerBy}
 use Rattle.top_call.specs.Laws.{AnswerIsOne}
-use Rattle.top_call.proofs.Borders.{dissolve_answer_is_one}
+use Rattle.top_call.proofs.Borders.{border_refusal_is_one, dissolved_is_one, dissolved_not_refused}
+use Rattle.top_call.proofs.Building.{built_of_is_one, geo_not_refused, geo_refusal_is_one}
 use Rattle.top_call.proofs.NotRefused.{loaded_not_refused}
 use Rattle.top_call.proofs.OneLoading.{loaded_is_one}
 use Rattle.top_call.proofs.OneRefusal.{refusal_is_one}
@@ -132,14 +134,18 @@ demoed_is_one rows cols seed bound x y first second =
     ∙ ap (λ (t : TopologyRead). demo_text second.after (length there.refs) (position_count t.map)) one.topology
     ∙ sym second.written
 
--- what is written of a text is one, and a text of which something is written is not refused
+-- the refusal of a text is one, and so is what is written of it; and a text of which something is written is not refused
+text_answer_is_one : (R : Status → Type 0) (W : List ℕ → Type 0) (a b : Answer) → ((s u : Status) → R s → R u → s ≡ u)
+    → ((x y : List ℕ) → W x → W y → x ≡ y) → ((x : List ℕ) (s : Status) → W x → R s → ⊥) → IsTextAnswer R W a → IsTextAnswer R W b → a ≡ b
+text_answer_is_one R W a b same one never (Refused s why is) (Refused u also too) = is ∙ ap refused (same s u why also) ∙ sym too
+text_answer_is_one R W a b same one never (Refused s why is) (Written y written too) = absurd (never y s written why)
+text_answer_is_one R W a b same one never (Written x written is) (Refused u also too) = absurd (never x u written also)
+text_answer_is_one R W a b same one never (Written x written is) (Written y also too) = is ∙ ap done (one x y written also) ∙ sym too
+
 map_answer_is_one : (options : Options) (text : List ℕ) (W : List ℕ → Type 0) (a b : Answer) → ((x y : List ℕ) → W x → W y → x ≡ y)
     → ((x : List ℕ) (s : Status) → W x → IsRefusal options text s → ⊥) → IsMapAnswer options text W a → IsMapAnswer options text W b → a ≡ b
-map_answer_is_one options text W a b one never (Refused s why is) (Refused u also too) =
-    is ∙ ap refused (refusal_is_one options text s u why also) ∙ sym too
-map_answer_is_one options text W a b one never (Refused s why is) (Written y written too) = absurd (never y s written why)
-map_answer_is_one options text W a b one never (Written x written is) (Refused u also too) = absurd (never x u written also)
-map_answer_is_one options text W a b one never (Written x written is) (Written y also too) = is ∙ ap done (one x y written also) ∙ sym too
+map_answer_is_one options text W a b one never first second =
+    text_answer_is_one (IsRefusal options text) W a b (refusal_is_one options text) one never first second
 
 -- a verdict is told of a text that loads
 checked_not_refused : (options : Options) (bound : ℤ) (read : Read) (v : Verdict) (s : Status) → IsChecked options bound read v
@@ -200,7 +206,14 @@ work_answer_is_one (Demo rows cols seed bound) texts read other a b are also fir
     first.2 ∙ ap done (demoed_is_one rows cols seed bound first.0 second.0 first.1 second.1) ∙ sym second.2
 work_answer_is_one (Dissolve polygons file) texts read other a b are also first second =
     let same = same_read (text_of texts file) read.file other.file are.0 also.0 in
-    dissolve_answer_is_one polygons read.file a b first (subst (λ (xs : List ℕ). IsDissolveAnswer polygons xs b) same second)
+    text_answer_is_one (IsBorderRefusal polygons read.file) (IsDissolved polygons read.file) a b (border_refusal_is_one polygons read.file)
+    (dissolved_is_one polygons read.file) (dissolved_not_refused polygons read.file) first
+    (subst (λ (xs : List ℕ). IsTextAnswer (IsBorderRefusal polygons xs) (IsDissolved polygons xs) b) same second)
+work_answer_is_one (Build file) texts read other a b are also first second =
+    let same = same_read (text_of texts file) read.file other.file are.0 also.0 in
+    text_answer_is_one (IsGeoRefusal read.file) (IsBuiltOf read.file) a b (geo_refusal_is_one read.file) (built_of_is_one read.file)
+    (λ x s is. geo_not_refused read.file is.tree is.geo s is.has) first
+    (subst (λ (xs : List ℕ). IsTextAnswer (IsGeoRefusal xs) (IsBuiltOf xs) b) same second)
 work_answer_is_one (Pyramid bounds file) texts read other a b are also first second =
     let same = same_read (text_of texts file) read.file other.file are.0 also.0 in
     map_answer_is_one plain read.file (IsRanked bounds read.file) a b (ranked_is_one bounds read.file)

@@ -1,33 +1,27 @@
 -- The border of polygons: which are missing, and the one answer.
-use Rattle.std.proofs.Common.{◌≡◌, ◌≢◌, ◌∙◌, ℕ, ◌<◌, Bool, true, false, cond, nat_lt, List, [], ◌∷◌, Option, None, Some, Result, Ok, Err}
-use Rattle.std.proofs.Common.{IfOk, IfErr, All, length, get_or, refl, sym, ap, subst, inl, inr, arith, ltb-true, ltb-false, lt-ltb}
+use Rattle.std.proofs.Common.{◌≡◌, ◌∙◌, ℕ, ◌<◌, Bool, true, false, cond, nat_lt, List, [], ◌∷◌, Option, None, Some, All, length, get_or}
+use Rattle.std.proofs.Common.{refl, sym, ap, subst, inl, inr, arith, ltb-true, ltb-false, lt-ltb}
 use Rattle.std.specs.Prelude.{◌⊎◌, ℤ}
-use Rattle.std.specs.Global.{Vec}
 use Rattle.std.proofs.lemmas.Bool.{cases_Bool}
 use Rattle.std.proofs.lemmas.List.Elements.{All-nil, All-cons, All-head, All-tail, All-get_or}
 use Rattle.std.proofs.lemmas.Option.{none-some, same_Some}
-use Rattle.grid_exact.specs.Geometry.{Place}
 use Rattle.arc_map.specs.Map.{Map}
 use Rattle.topo_reader.specs.Ends.{HasEvenEnds}
 use Rattle.topo_reader.specs.Reads.{TopologyRead}
-use Rattle.dissolve.specs.Border.{IsBorder}
 use Rattle.dissolve.specs.Odd.{odd_arcs}
 use Rattle.dissolve.specs.Texts.{rings_text}
 use Rattle.dissolve.proofs.Single.{same-rings}
 use Rattle.dissolve.proofs.Whole.{border-closed, border-used, border-once, border-crossed}
 use Rattle.top_call.specs.declared.forms.Options.{Options}
 use Rattle.top_call.specs.declared.status.Status.{Status}
-use Rattle.top_call.specs.declared.status.Status.TheVariants.{Done, NoMemory, NoPolygon}
+use Rattle.top_call.specs.declared.status.Status.TheVariants.{NoMemory, NoPolygon}
 use Rattle.top_call.specs.Maps.{IsLoaded, IsRefusal, IsRefused}
-use Rattle.top_call.specs.Answers.{Answer, done, refused, plain, first_missing, IsBorderText, IsDissolved, IsMissing, IsDissolveAnswer}
-use Rattle.top_call.specs.Answers.{RefusedMap, Missed, Dissolved}
-use Rattle.top_call.specs.Endings.{IsMapStatus, Replies, Settles}
+use Rattle.top_call.specs.Answers.{plain, first_missing, IsBorderText, IsDissolved, IsMissing, IsBorderRefusal, RefusedMap, Missed}
 use Rattle.top_call.specs.Headline.{IsBorderOf}
 use Rattle.top_call.proofs.NotRefused.{loaded_not_refused}
 use Rattle.top_call.proofs.OneRefusal.{refusal_is_one}
 use Rattle.top_call.proofs.OneTree.{text_has_one_topology}
 use Rattle.top_call.proofs.ReadMaps.{read_map_is_map}
-use Rattle.top_call.proofs.Settled.{settled_with, settled_refused}
 
 -- ---- which polygons a map has
 
@@ -61,7 +55,7 @@ border_text_is_one m polygons x y first second =
     first.written ∙ ap rings_text (same-rings m (odd_arcs m polygons) first.rings second.rings first.border second.border)
     ∙ sym second.written
 
-dissolved_is_one : (polygons text x y : List ℕ) → IsDissolved polygons text x → IsDissolved polygons text y → x ≡ y
+pub dissolved_is_one : (polygons text x y : List ℕ) → IsDissolved polygons text x → IsDissolved polygons text y → x ≡ y
 dissolved_is_one polygons text x y first second =
     let same = text_has_one_topology text first.topology second.topology first.loaded.topology second.loaded.topology in
     border_text_is_one first.topology.map polygons x y first.is_text
@@ -72,49 +66,28 @@ missing_is_one polygons text j k first second =
     let same = text_has_one_topology text first.topology second.topology first.loaded.topology second.loaded.topology in
     same_Some j k (sym first.first ∙ ap (λ (t : TopologyRead). first_missing (length t.map.polygons) polygons) same ∙ second.first)
 
-not_missing : (polygons text x : List ℕ) (k : ℕ) → IsDissolved polygons text x → IsMissing polygons text k → ⊥
-not_missing polygons text x k is missing =
-    let same = text_has_one_topology text is.topology missing.topology is.loaded.topology missing.loaded.topology in
-    none-some k (sym is.known ∙ ap (λ (t : TopologyRead). first_missing (length t.map.polygons) polygons) same ∙ missing.first)
+-- ---- no refusal
 
-pub dissolve_answer_is_one : (polygons text : List ℕ) (a b : Answer) → IsDissolveAnswer polygons text a → IsDissolveAnswer polygons text b
-    → a ≡ b
-dissolve_answer_is_one polygons text a b (RefusedMap s why is) (RefusedMap u also too) =
-    is ∙ ap refused (refusal_is_one plain text s u why also) ∙ sym too
-dissolve_answer_is_one polygons text a b (RefusedMap s why is) (Missed k missing too) =
+-- a text with such a map is not refused
+pub known_not_refused : (polygons text : List ℕ) (t : TopologyRead) (held : List ℕ) (s : Status) → IsLoaded plain text t held
+    → first_missing (length t.map.polygons) polygons ≡ None → IsBorderRefusal polygons text s → ⊥
+known_not_refused polygons text t held s loaded known (RefusedMap why) = loaded_not_refused plain text t held s loaded why
+known_not_refused polygons text t held s loaded known (Missed k missing is) =
+    let same = text_has_one_topology text t missing.topology loaded.topology missing.loaded.topology in
+    none-some k (sym known ∙ ap (λ (u : TopologyRead). first_missing (length u.map.polygons) polygons) same ∙ missing.first)
+
+pub dissolved_not_refused : (polygons text x : List ℕ) (s : Status) → IsDissolved polygons text x → IsBorderRefusal polygons text s → ⊥
+dissolved_not_refused polygons text x s is why = known_not_refused polygons text is.topology is.held s is.loaded is.known why
+
+pub border_refusal_is_one : (polygons text : List ℕ) (s u : Status) → IsBorderRefusal polygons text s → IsBorderRefusal polygons text u
+    → s ≡ u
+border_refusal_is_one polygons text s u (RefusedMap why) (RefusedMap also) = refusal_is_one plain text s u why also
+border_refusal_is_one polygons text s u (RefusedMap why) (Missed k missing is) =
     absurd (loaded_not_refused plain text missing.topology missing.held s missing.loaded why)
-dissolve_answer_is_one polygons text a b (RefusedMap s why is) (Dissolved y by too) =
-    absurd (loaded_not_refused plain text by.topology by.held s by.loaded why)
-dissolve_answer_is_one polygons text a b (Missed j missing is) (RefusedMap u also too) =
-    absurd (loaded_not_refused plain text missing.topology missing.held u missing.loaded also)
-dissolve_answer_is_one polygons text a b (Missed j missing is) (Missed k also too) =
-    is ∙ ap (λ (n : ℕ). refused (NoPolygon n)) (missing_is_one polygons text j k missing also) ∙ sym too
-dissolve_answer_is_one polygons text a b (Missed j missing is) (Dissolved y by too) = absurd (not_missing polygons text y j by missing)
-dissolve_answer_is_one polygons text a b (Dissolved x by is) (RefusedMap u also too) =
-    absurd (loaded_not_refused plain text by.topology by.held u by.loaded also)
-dissolve_answer_is_one polygons text a b (Dissolved x by is) (Missed k missing too) = absurd (not_missing polygons text x k by missing)
-dissolve_answer_is_one polygons text a b (Dissolved x by is) (Dissolved y also too) =
-    is ∙ ap done (dissolved_is_one polygons text x y by also) ∙ sym too
-
--- ---- how the run ends
-
-pub dissolve_settles : {S : Type 0} (written : S → List ℕ) (old new : S) (polygons text file : List ℕ) (tells : Bool)
-    (made : Result (Vec ℕ) Status) (result : Status) → text ≡ file → IfOk made (λ b. IsDissolveAnswer polygons text (done b.items))
-    → IfErr made (λ s. (s ≡ NoMemory) ⊎ IsDissolveAnswer polygons text (refused s)) → IfErr made IsMapStatus
-    → IfOk made (λ b. Replies tells (written old) (written new) b.items Done result) → IfErr made (λ s. (result ≡ s) × (new ≡ old))
-    → Settles (IsDissolveAnswer polygons file) tells (written old) (written new) result
-dissolve_settles written old new polygons text file tells (Ok b) result same is refusal status replies ended =
-    let of_file = subst (λ (xs : List ℕ). IsDissolveAnswer polygons xs (done b.items)) same is in
-    settled_with (IsDissolveAnswer polygons file) tells (written old) (written new) Done b.items result of_file tt replies
-dissolve_settles written old new polygons text file tells (Err s) result same is refusal status replies ended =
-    let of_file = subst (λ (xs : List ℕ). (s ≡ NoMemory) ⊎ IsDissolveAnswer polygons xs (refused s)) same refusal in
-    let answer =
-    settled_refused (IsDissolveAnswer polygons file) tells (written old) (written new) s (ap written ended.1) status (known of_file) in
-    subst (λ (r : Status). Settles (IsDissolveAnswer polygons file) tells (written old) (written new) r) (sym ended.0) answer
-  where
-    known : (s ≡ NoMemory) ⊎ IsDissolveAnswer polygons file (refused s) → s ≢ NoMemory → IsDissolveAnswer polygons file (refused s)
-    known (inl none) not = absurd (not none)
-    known (inr there) not = there
+border_refusal_is_one polygons text s u (Missed k missing is) (RefusedMap why) =
+    absurd (loaded_not_refused plain text missing.topology missing.held u missing.loaded why)
+border_refusal_is_one polygons text s u (Missed j missing is) (Missed k also too) =
+    is ∙ ap NoPolygon (missing_is_one polygons text j k missing also) ∙ sym too
 
 -- ---- what is written is a border
 
@@ -140,11 +113,10 @@ dissolved_is_border polygons text bytes is =
 
 -- ---- what was done
 
-pub dissolve_refused : (options : Options) (polygons text : List ℕ) (s : Status) → options ≡ plain → IsRefused options text s
-    → (s ≡ NoMemory) ⊎ IsDissolveAnswer polygons text (refused s)
-dissolve_refused options polygons text s is_plain (inl none) = inl none
-dissolve_refused options polygons text s is_plain (inr why) =
-    inr (RefusedMap s (subst (λ (o : Options). IsRefusal o text s) is_plain why) refl)
+pub border_refused : (options : Options) (polygons text : List ℕ) (s : Status) → options ≡ plain → IsRefused options text s
+    → (s ≡ NoMemory) ⊎ IsBorderRefusal polygons text s
+border_refused options polygons text s is_plain (inl none) = inl none
+border_refused options polygons text s is_plain (inr why) = inr (RefusedMap (subst (λ (o : Options). IsRefusal o text s) is_plain why))
 
 -- the map, the numbers and the count that were at hand are those of the text and the list
 pub record AreAtHand (options : Options) (polygons text : List ℕ) (t : TopologyRead) (held : List ℕ) (m : Map) (count : ℕ)
@@ -166,10 +138,10 @@ missing_as options polygons text t held m count numbers o are is =
     sym (is ∙ ap (λ (n : ℕ). first_missing n numbers) (are.count_is ∙ ap (λ (n : Map). length n.polygons) are.map_is)
     ∙ ap (first_missing (length t.map.polygons)) are.numbers_are)
 
-pub dissolve_missed : (options : Options) (polygons text : List ℕ) (t : TopologyRead) (held : List ℕ) (m : Map) (count : ℕ)
+pub border_missed : (options : Options) (polygons text : List ℕ) (t : TopologyRead) (held : List ℕ) (m : Map) (count : ℕ)
     (numbers : List ℕ) (k : ℕ) → AreAtHand options polygons text t held m count numbers → Some k ≡ first_missing count numbers
-    → IsDissolveAnswer polygons text (refused (NoPolygon k))
-dissolve_missed options polygons text t held m count numbers k are is =
+    → IsBorderRefusal polygons text (NoPolygon k)
+border_missed options polygons text t held m count numbers k are is =
     Missed k (record {
       topology = t;
       held = held;
@@ -177,15 +149,15 @@ dissolve_missed options polygons text t held m count numbers k are is =
       first = missing_as options polygons text t held m count numbers (Some k) are is;
     }) refl
 
-pub dissolve_written : (options : Options) (polygons text : List ℕ) (t : TopologyRead) (held : List ℕ) (m : Map) (count : ℕ)
+pub dissolved_by : (options : Options) (polygons text : List ℕ) (t : TopologyRead) (held : List ℕ) (m : Map) (count : ℕ)
     (numbers bytes : List ℕ) → AreAtHand options polygons text t held m count numbers → None ≡ first_missing count numbers
-    → IsBorderText m numbers bytes → IsDissolveAnswer polygons text (done bytes)
-dissolve_written options polygons text t held m count numbers bytes are is by =
+    → IsBorderText m numbers bytes → IsDissolved polygons text bytes
+dissolved_by options polygons text t held m count numbers bytes are is by =
     let of_map = subst (λ (n : Map). IsBorderText n numbers bytes) are.map_is by in
-    Dissolved bytes (record {
+    record {
       topology = t;
       held = held;
       loaded = as_plain options text t held are.is_plain are.loaded;
       known = missing_as options polygons text t held m count numbers None are is;
       is_text = subst (λ (ns : List ℕ). IsBorderText t.map ns bytes) are.numbers_are of_map;
-    }) refl
+    }

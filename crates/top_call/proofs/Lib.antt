@@ -24,6 +24,10 @@ pub mod CheckedYes
 pub mod SmallRecords
 pub mod OnlyYes
 pub mod NotRefused
+pub mod RefusalKinds
+pub mod OneReference
+pub mod OneBuilt
+pub mod Building
 pub mod Faithful
 pub mod Promised
 pub mod OneAnswer

@@ -1,6 +1,6 @@
 -- A word is a list of numbers exactly where it is their decimals with commas between them.
 use Rattle.std.proofs.Common.{◌≡◌, ◌≢◌, ◌∙◌, ℕ, suc, ◌+◌, ◌-◌, ◌^◌, ◌<◌, ◌≤◌, ◌==◌, ◌&&◌, nat_lt, List, [], ◌∷◌, ◌++◌, Option, None, Some}
-use Rattle.std.proofs.Common.{Bool, true, false, All, length, get_or, map, decimal, refl, sym, ap, subst, arith, ltb-true, lt-ltb}
+use Rattle.std.proofs.Common.{true, false, All, length, get_or, map, decimal, refl, sym, ap, subst, arith, ltb-true, lt-ltb}
 use Rattle.std.proofs.lemmas.Bool.{and_parts}
 use Rattle.std.proofs.lemmas.Bool.Decides.{nat_tests}
 use Rattle.std.proofs.lemmas.Fmt.{decimal_is_IsNumeral}

@@ -11,16 +11,17 @@ use Rattle.top_call.specs.declared.status.Limit.TheVariants.{Text, Depth, Many}
 use Rattle.top_call.specs.declared.status.Status.{Status}
 use Rattle.top_call.specs.declared.status.Status.TheVariants.{Done, No, Usage, NotUtf8, NotJson, NotTopology, OffProfile, TooLarge}
 use Rattle.top_call.specs.declared.status.Status.TheVariants.{NotArranged, ReadFault, WriteFault, NoMemory, OffWeights, NoPolygon}
+use Rattle.top_call.specs.declared.status.Status.TheVariants.{NotGeoJson}
 use Rattle.outside_io.specs.Texts.{Texts}
 use Rattle.top_call.specs.declared.status.Role.{Role}
 use Rattle.top_call.specs.Words.{Form, form_of}
 use Rattle.top_call.specs.Reading.{Read, named, AreRead, AreShort, IsFirstPast, IsReadingStatus}
 use Rattle.arc_map.specs.Map.{Map}
 use Rattle.topo_reader.specs.Reads.{TopologyRead}
-use Rattle.top_call.specs.Maps.{IsRefused, IsLoaded}
-use Rattle.top_call.specs.Answers.{Answer, refused, done, verdict_status, plain, faces_text, IsFaced, IsMapAnswer, Refused, Written}
+use Rattle.top_call.specs.Maps.{IsRefused, IsRefusal, IsLoaded}
+use Rattle.top_call.specs.Answers.{Answer, refused, done, verdict_status, plain, faces_text, IsFaced, IsTextAnswer, IsMapAnswer, Refused}
 use Rattle.top_call.specs.Answers.{IsCheckAnswer, RefusedFile, Told, IsChecked, IsWorkAnswer, IsFormAnswer, TooLong, Worked, IsAnswerBy}
-use Rattle.top_call.specs.Answers.{IsAnswer}
+use Rattle.top_call.specs.Answers.{IsAnswer, Written}
 use Rattle.top_call.specs.Verdicts.{verdict_line}
 use Rattle.top_call.specs.Endings.{IsMapStatus, IsWritten, Wrote, Replies, Settles}
 
@@ -47,6 +48,7 @@ settled_with IsIt tells before now WriteFault bytes result is written (inl h) = 
 settled_with IsIt tells before now NoMemory bytes result is written (inl h) = absurd written
 settled_with IsIt tells before now (OffWeights arc at) bytes result is written (inl h) = absurd written
 settled_with IsIt tells before now (NoPolygon k) bytes result is written (inl h) = absurd written
+settled_with IsIt tells before now (NotGeoJson kind at) bytes result is written (inl h) = absurd written
 
 -- nothing was written
 unchanged : (tells : Bool) (before now : List ℕ) → now ≡ before → Wrote tells before now []
@@ -76,6 +78,8 @@ settled_refused IsIt tells before now (OffWeights arc at) same kind is =
     (refused (OffWeights arc at), is (λ e. cc), refl, unchanged tells before now same)
 settled_refused IsIt tells before now (NoPolygon k) same kind is =
     (refused (NoPolygon k), is (λ e. cc), refl, unchanged tells before now same)
+settled_refused IsIt tells before now (NotGeoJson geo at) same kind is =
+    (refused (NotGeoJson geo at), is (λ e. cc), refl, unchanged tells before now same)
 
 -- ---- what is said of more answers
 
@@ -95,6 +99,7 @@ settled_as P Q tells before now WriteFault more h = (h.0, more h.0 h.1, h.2, h.3
 settled_as P Q tells before now NoMemory more h = tt
 settled_as P Q tells before now (OffWeights arc at) more h = (h.0, more h.0 h.1, h.2, h.3)
 settled_as P Q tells before now (NoPolygon k) more h = (h.0, more h.0 h.1, h.2, h.3)
+settled_as P Q tells before now (NotGeoJson kind at) more h = (h.0, more h.0 h.1, h.2, h.3)
 
 -- ---- the forms
 
@@ -102,11 +107,11 @@ is_written : (v : Verdict) → IsWritten (verdict_status v)
 is_written verdicts.Yes = tt
 is_written (verdicts.No r) = tt
 
--- a refused text is the answer of a form with a map
-refused_map : (options : Options) (text : List ℕ) (W : List ℕ → Type 0) (s : Status) → IsRefused options text s → s ≢ NoMemory
-    → IsMapAnswer options text W (refused s)
-refused_map options text W s (inl none) not = absurd (not none)
-refused_map options text W s (inr why) not = Refused s why refl
+-- a refusal of the text is the answer
+text_refused : (R : Status → Type 0) (W : List ℕ → Type 0) (s : Status) → (s ≡ NoMemory) ⊎ R s → s ≢ NoMemory
+    → IsTextAnswer R W (refused s)
+text_refused R W s (inl none) not = absurd (not none)
+text_refused R W s (inr why) not = Refused s why refl
 
 refused_check : (options : Options) (bound : ℤ) (read : Read) (s : Status) → IsRefused options read.file s → s ≢ NoMemory
     → IsCheckAnswer options bound read (refused s)
@@ -121,7 +126,7 @@ map_written options text W tells before now bytes result is replies =
 pub map_refused : (options : Options) (text : List ℕ) (W : List ℕ → Type 0) (tells : Bool) (before now : List ℕ) (s : Status) → now ≡ before
     → IsMapStatus s → IsRefused options text s → Settles (IsMapAnswer options text W) tells before now s
 map_refused options text W tells before now s same kind why =
-    settled_refused (IsMapAnswer options text W) tells before now s same kind (refused_map options text W s why)
+    settled_refused (IsMapAnswer options text W) tells before now s same kind (text_refused (IsRefusal options text) W s why)
 
 pub check_told : (options : Options) (bound : ℤ) (read : Read) (tells : Bool) (before now : List ℕ) (v : Verdict) (result : Status)
     → IsChecked options bound read v → Replies tells before now (verdict_line v) (verdict_status v) result
@@ -153,18 +158,21 @@ faces_settled options text t held m tells before now result is_plain loaded is_m
 
 -- ---- what was made, and then written
 
-pub map_settles : {S : Type 0} (written : S → List ℕ) (old new : S) (options : Options) (W : List ℕ → List ℕ → Type 0) (text file : List ℕ)
-    (tells : Bool) (made : Result (Vec ℕ) Status) (result : Status) → text ≡ file → IfOk made (λ b. W text b.items)
-    → IfErr made (IsRefused options text) → IfErr made IsMapStatus
+pub text_settles : {S : Type 0} (written : S → List ℕ) (old new : S) (R : List ℕ → Status → Type 0) (W : List ℕ → List ℕ → Type 0)
+    (text file : List ℕ) (tells : Bool) (made : Result (Vec ℕ) Status) (result : Status) → text ≡ file → IfOk made (λ b. W text b.items)
+    → IfErr made (λ s. (s ≡ NoMemory) ⊎ R text s) → IfErr made IsMapStatus
     → IfOk made (λ b. Replies tells (written old) (written new) b.items Done result) → IfErr made (λ s. (result ≡ s) × (new ≡ old))
-    → Settles (IsMapAnswer options file (W file)) tells (written old) (written new) result
-map_settles written old new options W text file tells (Ok b) result same made refused status replies ended =
+    → Settles (IsTextAnswer (R file) (W file)) tells (written old) (written new) result
+text_settles written old new R W text file tells (Ok b) result same made why status replies ended =
     let of_file = subst (λ (xs : List ℕ). W xs b.items) same made in
-    map_written options file (W file) tells (written old) (written new) b.items result of_file replies
-map_settles written old new options W text file tells (Err s) result same made refused status replies ended =
-    let of_file = subst (λ (xs : List ℕ). IsRefused options xs s) same refused in
-    let answer = map_refused options file (W file) tells (written old) (written new) s (ap written ended.1) status of_file in
-    subst (λ (r : Status). Settles (IsMapAnswer options file (W file)) tells (written old) (written new) r) (sym ended.0) answer
+    settled_with (IsTextAnswer (R file) (W file)) tells (written old) (written new) Done b.items result (Written b.items of_file refl)
+    tt replies
+text_settles written old new R W text file tells (Err s) result same made why status replies ended =
+    let of_file = subst (λ (xs : List ℕ). (s ≡ NoMemory) ⊎ R xs s) same why in
+    let answer =
+    settled_refused (IsTextAnswer (R file) (W file)) tells (written old) (written new) s (ap written ended.1) status
+    (text_refused (R file) (W file) s of_file) in
+    subst (λ (r : Status). Settles (IsTextAnswer (R file) (W file)) tells (written old) (written new) r) (sym ended.0) answer
 
 pub check_settles : {S : Type 0} (written : S → List ℕ) (old new : S) (options : Options) (bound : ℤ) (read : Read) (tells : Bool)
     (found : Result Verdict Status) (result : Status) → IfOk found (IsChecked options bound read)
@@ -223,6 +231,7 @@ reading_settled f texts tells before now (NotArranged meeting) same kind past = 
 reading_settled f texts tells before now WriteFault same kind past = absurd kind
 reading_settled f texts tells before now (OffWeights arc at) same kind past = absurd kind
 reading_settled f texts tells before now (NoPolygon k) same kind past = absurd kind
+reading_settled f texts tells before now (NotGeoJson k at) same kind past = absurd kind
 
 -- the answer of the form of the words is that of the words
 pub words_settled : (words : List (List ℕ)) (texts : Texts) (f : Form) (tells : Bool) (before now : List ℕ) (s : Status)

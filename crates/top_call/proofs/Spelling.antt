@@ -1,31 +1,24 @@
 -- Words are a form exactly where they spell it.
-use Rattle.std.proofs.Common.{◌≡◌, ℕ, ◌+◌, ◌*◌, ◌-◌, ◌^◌, ◌<◌, ◌≤◌, ◌==◌, ◌&&◌, ◌||◌, ℤ, pos, negsuc, nat_lt, List, [], ◌∷◌, ◌++◌, Option}
-use Rattle.std.proofs.Common.{None, Some, option_map, Bool, true, false, cond, length, get_or, decimal, refl, sym, ap, subst, ◌∙◌, arith}
-use Rattle.std.proofs.Common.{inl, inr, le-leb, leb-true}
-use Rattle.std.proofs.lemmas.Bool.{cases_lt, and_parts}
-use Rattle.std.proofs.lemmas.Bool.Decides.{nat_tests}
+use Rattle.std.proofs.Common.{◌≡◌, ℕ, ◌^◌, ◌≤◌, ◌&&◌, ℤ, pos, negsuc, List, [], ◌∷◌, ◌++◌, Option}
+use Rattle.std.proofs.Common.{None, Some, Bool, true, false, cond, decimal, refl, sym, ap, subst, ◌∙◌, arith}
+use Rattle.std.proofs.Common.{inl, inr}
+use Rattle.std.proofs.lemmas.Bool.{and_parts}
 use Rattle.std.proofs.lemmas.Int.{ints}
-use Rattle.std.proofs.lemmas.Option.{none-some, same_Some, cond_some, option_and_then_some}
-use Rattle.std.proofs.lemmas.Fmt.{decimal_is_IsNumeral, decimal_digit, first_decimal, decimal-digits_value}
-use Rattle.std.proofs.lemmas.Slice.Eq.{bytes_eq-Decides}
-use Rattle.std.proofs.lemmas.Str.{digit_value_digit}
-use Rattle.std.proofs.lemmas.Str.Parse.{numerals_by_value, tells_digits, digit_from_value}
-use Rattle.std.specs.Prelude.{◌⊎◌, codes, nat_le}
-use Rattle.std.specs.Char.{digit_value, is_ascii_digit}
-use Rattle.std.specs.Int.{IsInRange}
+use Rattle.std.proofs.lemmas.Option.{none-some, same_Some, option_and_then_some}
+use Rattle.std.specs.Prelude.{codes}
 use Rattle.std.specs.Str.{bytes_eq}
-use Rattle.std.specs.Str.Parse.{AllDigits, digits_value, digits_value_after}
 use Rattle.grid_exact.specs.Weights.{Scales, IsWeight}
 use Rattle.top_call.specs.declared.forms.Options.{Options}
 use Rattle.top_call.specs.declared.words.Task.{Task}
 use Rattle.top_call.specs.declared.words.Task.TheVariants as tasks
-use Rattle.top_call.specs.Words.{Form, Simplify, Layers, Check, Faces, Make, Demo, Dissolve, Pyramid, read_digits, between, number_between}
-use Rattle.top_call.specs.Words.{bound_of, weights_of, is_name, are_names, named_form, bounded_form, weighed_form, held_form, task_form}
-use Rattle.top_call.specs.Words.{faces_form, make_form, demo_form, dissolve_form, pyramid_form, is_polygon_list, polygons_in, is_bound_list}
-use Rattle.top_call.specs.Words.{bounds_in, command_form, form_of}
+use Rattle.top_call.specs.Words.{Form, Simplify, Layers, Check, Faces, Make, Demo, Dissolve, Build, Pyramid, read_digits}
+use Rattle.top_call.specs.Words.{between, number_between, bound_of, weights_of, is_name, are_names, named_form, bounded_form, weighed_form}
+use Rattle.top_call.specs.Words.{held_form}
+use Rattle.top_call.specs.Words.{task_form, faces_form, make_form, demo_form, dissolve_form, build_form, pyramid_form, is_polygon_list}
+use Rattle.top_call.specs.Words.{polygons_in, is_bound_list, bounds_in, command_form, form_of}
 use Rattle.top_call.specs.Requests.{digits, hold_words, options_words, list_word, spelling, IsBound, AreWeights, IsMakeable, IsWithinLimits}
 use Rattle.top_call.specs.Requests.{Spells}
-use Rattle.top_call.proofs.Numbers.{kept, kept_behind, one_of, mapped_some, same, number_spelled, number_found, number_in_range}
+use Rattle.top_call.proofs.Numbers.{kept, one_of, mapped_some, same, number_spelled, number_found, number_in_range}
 use Rattle.top_call.proofs.ListWords.{list_made, list_found, listed_found}
 
 -- ---- bounds and weights
@@ -239,6 +232,13 @@ dissolve_made (list ∷ file ∷ []) f e =
     (record { spelled = ap (λ (word : List ℕ). codes "dissolve" ∷ word ∷ file ∷ []) made.spelled; limits = (made.numbers, tests.1) })
 dissolve_made (a ∷ b ∷ c ∷ words) f e = absurd (none-some f e)
 
+build_made : (words : List (List ℕ)) (f : Form) → build_form words ≡ Some f → IsSpelled (codes "build" ∷ words) f
+build_made [] f e = absurd (none-some f e)
+build_made (file ∷ []) f e =
+    let parts = kept (is_name file) (Some (Build file)) f e in
+    subst (λ (g : Form). IsSpelled (codes "build" ∷ file ∷ []) g) (same_Some _ _ parts.1) (record { spelled = refl; limits = parts.0 })
+build_made (a ∷ b ∷ words) f e = absurd (none-some f e)
+
 pyramid_made : (words : List (List ℕ)) (f : Form) → pyramid_form words ≡ Some f → IsSpelled (codes "pyramid" ∷ words) f
 pyramid_made [] f e = absurd (none-some f e)
 pyramid_made (list ∷ []) f e = absurd (none-some f e)
@@ -268,9 +268,12 @@ command_made command words f e =
                 | inl h ↦ rw (same command (codes "demo") h.0) (demo_made words f h.1)
                 | inr e6 ↦ elim (one_of (bytes_eq command (codes "dissolve")) _ _ f e6) [
                   | inl h ↦ rw (same command (codes "dissolve") h.0) (dissolve_made words f h.1)
-                  | inr e7 ↦ elim (one_of (bytes_eq command (codes "pyramid")) _ _ f e7) [
-                    | inl h ↦ rw (same command (codes "pyramid") h.0) (pyramid_made words f h.1)
-                    | inr e8 ↦ absurd (none-some f e8)
+                  | inr e7 ↦ elim (one_of (bytes_eq command (codes "build")) _ _ f e7) [
+                    | inl h ↦ rw (same command (codes "build") h.0) (build_made words f h.1)
+                    | inr e8 ↦ elim (one_of (bytes_eq command (codes "pyramid")) _ _ f e8) [
+                      | inl h ↦ rw (same command (codes "pyramid") h.0) (pyramid_made words f h.1)
+                      | inr e9 ↦ absurd (none-some f e9)
+                    ]
                   ]
                 ]
               ]
@@ -330,6 +333,7 @@ form_found (Dissolve polygons file) h =
     both_pass (is_polygon_list (list_word polygons)) (is_name file) (Dissolve (polygons_in (list_word polygons)) file)
     (list_found 1048575 1000 polygons (omega arith) h.0) h.1
     ∙ ap (λ (ns : List ℕ). Some (Dissolve ns file)) (listed_found 1048575 1000 polygons (omega arith) h.0)
+form_found (Build file) h = rw h refl
 form_found (Pyramid bounds file) h =
     both_pass (is_bound_list (list_word bounds)) (is_name file) (Pyramid (bounds_in (list_word bounds)) file)
     (list_found (2 ^ 30) 16 bounds (omega arith) h.0) h.1

@@ -32,9 +32,10 @@ use Rattle.top_call.specs.declared.status.Limit.TheVariants.{Text}
 use Rattle.top_call.specs.declared.status.Role.{Role}
 use Rattle.top_call.specs.declared.status.Status.{Status}
 use Rattle.top_call.specs.declared.status.Status.TheVariants.{Done, No, Usage, TooLarge, ReadFault, NoPolygon}
-use Rattle.top_call.specs.Words.{Form, Simplify, Layers, Check, Faces, Make, Demo, Dissolve, Pyramid, form_of}
+use Rattle.top_call.specs.Words.{Form, Simplify, Layers, Check, Faces, Make, Demo, Dissolve, Build, Pyramid, form_of}
 use Rattle.top_call.specs.Reading.{Read, named, AreRead, AreShort, IsFirstPast, IsFirstUnheld}
 use Rattle.top_call.specs.Maps.{IsLoaded, IsRefusal, scales_of}
+use Rattle.top_call.specs.Built.{IsGeoRefusal, IsBuiltOf}
 use Rattle.top_call.specs.Verdicts.{verdict_line}
 
 -- a status, and the bytes that go out with it
@@ -156,6 +157,11 @@ pub record IsMissing (polygons text : List ℕ) (polygon : ℕ) : Type 0 where
   pub loaded : IsLoaded plain text topology held
   pub first : first_missing (length topology.map.polygons) polygons ≡ Some polygon
 
+-- the map of the text is refused, or it does not have each of these polygons
+pub data IsBorderRefusal (polygons text : List ℕ) (status : Status) : Type 0 where
+  RefusedMap : IsRefusal plain text status → IsBorderRefusal polygons text status
+  Missed : (polygon : ℕ) → IsMissing polygons text polygon → status ≡ NoPolygon polygon → IsBorderRefusal polygons text status
+
 -- the text of the ranks of the positions of a map by the levels of these bounds
 pub record IsRanksText (m : Map) (bounds : List ℤ) (bytes : List ℕ) : Type 0 where
   pub ranks : List (List ℕ)
@@ -215,10 +221,14 @@ told verdict = record { status = verdict_status verdict; bytes = verdict_line ve
 
 -- ---- the work of a form
 
--- the text is refused, or these bytes are written
-pub data IsMapAnswer (options : Options) (text : List ℕ) (IsWritten : List ℕ → Type 0) (a : Answer) : Type 0 where
-  Refused : (s : Status) → IsRefusal options text s → a ≡ refused s → IsMapAnswer options text IsWritten a
-  Written : (bytes : List ℕ) → IsWritten bytes → a ≡ done bytes → IsMapAnswer options text IsWritten a
+-- the text is refused with a status, or these bytes are written
+pub data IsTextAnswer (IsRefusedWith : Status → Type 0) (IsWritten : List ℕ → Type 0) (a : Answer) : Type 0 where
+  Refused : (s : Status) → IsRefusedWith s → a ≡ refused s → IsTextAnswer IsRefusedWith IsWritten a
+  Written : (bytes : List ℕ) → IsWritten bytes → a ≡ done bytes → IsTextAnswer IsRefusedWith IsWritten a
+
+-- the map of the text is refused, or these bytes are written
+abbrev pub IsMapAnswer : Options → List ℕ → (List ℕ → Type 0) → Answer → Type 0
+IsMapAnswer options text IsWritten a = IsTextAnswer (IsRefusal options text) IsWritten a
 
 -- these bytes are made and written
 abbrev pub IsMadeAnswer : (List ℕ → Type 0) → Answer → Type 0
@@ -229,12 +239,6 @@ pub data IsCheckAnswer (options : Options) (bound : ℤ) (read : Read) (a : Answ
   RefusedFile : (s : Status) → IsRefusal options read.file s → a ≡ refused s → IsCheckAnswer options bound read a
   Told : (verdict : Verdict) → IsChecked options bound read verdict → a ≡ told verdict → IsCheckAnswer options bound read a
 
--- the text of FILE is refused, or its map does not have each of the polygons, or their border is written
-pub data IsDissolveAnswer (polygons text : List ℕ) (a : Answer) : Type 0 where
-  RefusedMap : (s : Status) → IsRefusal plain text s → a ≡ refused s → IsDissolveAnswer polygons text a
-  Missed : (polygon : ℕ) → IsMissing polygons text polygon → a ≡ refused (NoPolygon polygon) → IsDissolveAnswer polygons text a
-  Dissolved : (bytes : List ℕ) → IsDissolved polygons text bytes → a ≡ done bytes → IsDissolveAnswer polygons text a
-
 -- the answer of a form over the texts that were read
 abbrev pub IsWorkAnswer : Form → Read → Answer → Type 0
 IsWorkAnswer (Simplify options bound file) read a = IsMapAnswer options read.file (IsSimplified options bound read.file) a
@@ -243,7 +247,8 @@ IsWorkAnswer (Check options bound file out cert) read a = IsCheckAnswer options 
 IsWorkAnswer (Faces file) read a = IsMapAnswer plain read.file (IsFaced read.file) a
 IsWorkAnswer (Make rows cols seed) read a = a ≡ done (made rows cols seed)
 IsWorkAnswer (Demo rows cols seed bound) read a = IsMadeAnswer (IsDemoed rows cols seed bound) a
-IsWorkAnswer (Dissolve polygons file) read a = IsDissolveAnswer polygons read.file a
+IsWorkAnswer (Dissolve polygons file) read a = IsTextAnswer (IsBorderRefusal polygons read.file) (IsDissolved polygons read.file) a
+IsWorkAnswer (Build file) read a = IsTextAnswer (IsGeoRefusal read.file) (IsBuiltOf read.file) a
 IsWorkAnswer (Pyramid bounds file) read a = IsMapAnswer plain read.file (IsRanked bounds read.file) a
 
 -- ---- the whole

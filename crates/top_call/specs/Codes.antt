@@ -3,6 +3,7 @@ use Rattle.std.specs.Prelude.{ℕ}
 use Rattle.top_call.specs.declared.status.Status.{Status}
 use Rattle.top_call.specs.declared.status.Status.TheVariants.{Done, No, Usage, NotUtf8, NotJson, NotTopology, OffProfile, TooLarge}
 use Rattle.top_call.specs.declared.status.Status.TheVariants.{NotArranged, ReadFault, WriteFault, NoMemory, OffWeights, NoPolygon}
+use Rattle.top_call.specs.declared.status.Status.TheVariants.{NotGeoJson}
 
 abbrev pub code_of : Status → ℕ
 code_of Done = 0
@@ -19,3 +20,4 @@ code_of WriteFault = 9
 code_of NoMemory = 10
 code_of (OffWeights arc position) = 13
 code_of (NoPolygon polygon) = 14
+code_of (NotGeoJson kind at) = 15

@@ -7,6 +7,7 @@ use Rattle.top_call.specs.declared.status.Limit.TheVariants.{Text, Depth, Many}
 use Rattle.top_call.specs.declared.status.Status.{Status}
 use Rattle.top_call.specs.declared.status.Status.TheVariants.{Done, No, NotUtf8, NotJson, NotTopology, OffProfile, TooLarge, NotArranged}
 use Rattle.top_call.specs.declared.status.Status.TheVariants.{ReadFault, WriteFault, NoMemory, OffWeights, NoPolygon}
+use Rattle.top_call.specs.declared.status.Status.TheVariants.{NotGeoJson}
 use Rattle.top_call.specs.Words.{Form}
 use Rattle.top_call.specs.Reading.{Named, named, limit_of, AreHeld, IsFirstPast}
 use Rattle.top_call.specs.Answers.{Answer}
@@ -25,6 +26,7 @@ IsMapStatus (NotArranged meeting) = Unit {0}
 IsMapStatus NoMemory = Unit {0}
 IsMapStatus (OffWeights arc at) = Unit {0}
 IsMapStatus (NoPolygon polygon) = Unit {0}
+IsMapStatus (NotGeoJson kind at) = Unit {0}
 IsMapStatus status = ⊥
 
 -- the bytes of a form were written

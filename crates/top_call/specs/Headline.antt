@@ -1,6 +1,6 @@
 -- What is promised of a run: the text that `simplify` writes is faithful to the one that it was given, a text that loads is worked on, what
--- was written for it is judged and found right, what `dissolve` writes is a border, what `pyramid` writes are the ranks of levels, and
--- `make` and `demo` refuse nothing.
+-- was written for it is judged and found right, what `dissolve` writes is a border, what `pyramid` writes are the ranks of levels, what
+-- `build` writes is a topology, and `make` and `demo` refuse nothing.
 use Rattle.std.specs.Prelude.{◌≡◌, ◌≢◌, ◌↔◌, ◌⊎◌, ◌-◌, ◌<◌, ◌≤◌, ℕ, ℤ, Bool, false, List, ◌++◌, All, AllPairs, Contains, length, take}
 use Rattle.std.specs.Prelude.{get_or, Some}
 use Rattle.grid_exact.specs.Geometry.{Place}
@@ -10,6 +10,8 @@ use Rattle.arc_map.specs.Map.{Map}
 use Rattle.arc_map.specs.Records.{Record}
 use Rattle.arc_map.specs.Work.{Work, work_of}
 use Rattle.outside_io.specs.Texts.{Texts, text_of}
+use Rattle.json_scan.specs.Tree.{Tree}
+use Rattle.geo_reader.specs.Geo.{Geo}
 use Rattle.topo_reader.specs.Reads.{TopologyRead}
 use Rattle.chain_replace.specs.Laws.{KeepsFaces}
 use Rattle.chain_replace.specs.Run.{Terms, IsAllowedIn, last_of, IsRecordOf, AreReplaced, IsOutcome}
@@ -24,9 +26,10 @@ use Rattle.top_call.specs.declared.forms.Options.{Options}
 use Rattle.top_call.specs.declared.status.Role.TheVariants.{File, Out, Cert}
 use Rattle.top_call.specs.declared.status.Status.{Status}
 use Rattle.top_call.specs.declared.status.Status.TheVariants.{Done, No, WriteFault, NoMemory}
-use Rattle.top_call.specs.Words.{Form, Simplify, Layers, Check, Faces, Make, Demo, Dissolve, Pyramid, form_of}
+use Rattle.top_call.specs.Words.{Form, Simplify, Layers, Check, Faces, Make, Demo, Dissolve, Build, Pyramid, form_of}
 use Rattle.top_call.specs.Reading.{limit_of, IsWithin}
 use Rattle.top_call.specs.Maps.{IsLoaded}
+use Rattle.top_call.specs.Built.{HasGeo, IsBuiltOf}
 use Rattle.top_call.specs.Requests.{IsWithinLimits}
 use Rattle.top_call.specs.Verdicts.{verdict_line}
 use Rattle.top_call.specs.Answers.{done, plain, terms_of, text_with, IsRanked, IsFormAnswer}
@@ -87,12 +90,22 @@ pub record HasPolygons (polygons : List ℕ) (texts : Texts) (file : List ℕ) :
   pub ready : IsReady plain texts file
   pub known : All (λ k. k < length ready.topology.map.polygons) polygons
 
--- the form works on the map of FILE alone, and FILE is ready
+-- FILE is held, is no longer than it may be, and reads as GeoJSON
+pub record IsGeoReady (texts : Texts) (file : List ℕ) : Type 0 where
+  pub text : List ℕ
+  pub is_held : text_of texts file ≡ Some text
+  pub short : length text ≤ limit_of File
+  pub tree : Tree
+  pub geo : Geo
+  pub has : HasGeo text tree geo
+
+-- the form works on FILE alone, and FILE is ready
 abbrev pub CanWork : Form → Texts → Type 0
 CanWork (Simplify options bound file) texts = IsReady options texts file
 CanWork (Layers options bound file) texts = IsReady options texts file
 CanWork (Faces file) texts = IsReady plain texts file
 CanWork (Dissolve polygons file) texts = HasPolygons polygons texts file
+CanWork (Build file) texts = IsGeoReady texts file
 CanWork (Pyramid bounds file) texts = IsReady plain texts file
 CanWork f texts = ⊥
 
@@ -196,6 +209,14 @@ abbrev pub Levels : List (List ℕ) → Texts → List ℕ → List ℕ → Stat
 Levels words texts before now result =
     (bounds file text bytes : List ℕ) → form_of words ≡ Some (Pyramid bounds file) → text_of texts file ≡ Some text → result ≡ Done
     → now ≡ before ++ bytes → IsRanked bounds text bytes
+
+-- ---- what is built
+
+-- What `build` writes of a text that is held, where it is done, is the topology that is built of its GeoJSON.
+abbrev pub Builds : List (List ℕ) → Texts → List ℕ → List ℕ → Status → Type 0
+Builds words texts before now result =
+    (file text bytes : List ℕ) → form_of words ≡ Some (Build file) → text_of texts file ≡ Some text → result ≡ Done
+    → now ≡ before ++ bytes → IsBuiltOf text bytes
 
 -- ---- the forms that make a coverage
 

@@ -6,6 +6,7 @@ pub mod Codes
 pub mod Verdicts
 pub mod Reading
 pub mod Maps
+pub mod Built
 pub mod Answers
 pub mod Endings
 pub mod JudgedLaws

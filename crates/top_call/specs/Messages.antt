@@ -1,6 +1,8 @@
 -- The line that tells a status.
 use Rattle.std.specs.Prelude.{ℕ, List, [], ◌++◌, codes, decimal}
 use Rattle.arc_map.specs.declared.refs.EdgeRef.{EdgeRef}
+use Rattle.geo_reader.specs.declared.fault.GeoKind.{GeoKind}
+use Rattle.geo_reader.specs.declared.fault.GeoKind.TheVariants as geos
 use Rattle.topo_reader.specs.declared.fault.ShapeKind.{ShapeKind}
 use Rattle.topo_reader.specs.declared.fault.ShapeKind.TheVariants as shapes
 use Rattle.topo_reader.specs.declared.fault.OffKind.{OffKind}
@@ -16,6 +18,7 @@ use Rattle.top_call.specs.declared.status.Meeting.TheVariants.{Edges, PointOnArc
 use Rattle.top_call.specs.declared.status.Status.{Status}
 use Rattle.top_call.specs.declared.status.Status.TheVariants.{Done, No, Usage, NotUtf8, NotJson, NotTopology, OffProfile, TooLarge}
 use Rattle.top_call.specs.declared.status.Status.TheVariants.{NotArranged, ReadFault, WriteFault, NoMemory, OffWeights, NoPolygon}
+use Rattle.top_call.specs.declared.status.Status.TheVariants.{NotGeoJson}
 
 abbrev pub shape_words : ShapeKind → List ℕ
 shape_words shapes.NotObject = codes "not an object"
@@ -28,6 +31,15 @@ shape_words shapes.BadArcIndex = codes "bad arc index"
 shape_words shapes.Unjoined = codes "unjoined"
 shape_words shapes.OpenRing = codes "open ring"
 shape_words shapes.UnknownGeometry = codes "unknown geometry"
+
+abbrev pub geo_words : GeoKind → List ℕ
+geo_words geos.NotObject = codes "not an object"
+geo_words geos.Missing = codes "missing member"
+geo_words geos.Twice = codes "member twice"
+geo_words geos.WrongType = codes "wrong type"
+geo_words geos.UnknownType = codes "unknown type"
+geo_words geos.ShortRing = codes "short ring"
+geo_words geos.OpenRing = codes "open ring"
 
 abbrev pub off_words : OffKind → List ℕ
 off_words offs.NotWhole = codes "not whole"
@@ -75,7 +87,7 @@ unfoldable pub usage_line : List ℕ
 usage_line =
     codes "usage: simplify [--hold] [--weights WX WY] E FILE, layers [--hold] [--weights WX WY] E FILE, "
     ++ codes "check [--hold] [--weights WX WY] E FILE OUT CERT, faces FILE, make R C SEED, demo R C SEED E, "
-    ++ codes "dissolve LIST FILE, pyramid BOUNDS FILE\n"
+    ++ codes "dissolve LIST FILE, build FILE, pyramid BOUNDS FILE\n"
 
 -- the line that tells a status; `Done` and `No` have none
 abbrev pub message_of : Status → List ℕ
@@ -93,3 +105,4 @@ message_of WriteFault = codes "writing failed\n"
 message_of NoMemory = codes "no memory\n"
 message_of (OffWeights arc position) = off_weights_line arc position
 message_of (NoPolygon polygon) = no_polygon_line polygon
+message_of (NotGeoJson kind at) = codes "not GeoJSON: " ++ geo_words kind ++ codes " at " ++ decimal at ++ codes "\n"

@@ -9,7 +9,7 @@ use Rattle.top_call.specs.declared.status.Limit.TheVariants.{Text}
 use Rattle.top_call.specs.declared.status.Status.{Status}
 use Rattle.top_call.specs.declared.status.Status.TheVariants.{TooLarge, ReadFault, NoMemory}
 use Rattle.top_call.specs.declared.texts.Texts.{Texts as HeldTexts}
-use Rattle.top_call.specs.Words.{Form, Simplify, Layers, Check, Faces, Make, Demo, Dissolve, Pyramid}
+use Rattle.top_call.specs.Words.{Form, Simplify, Layers, Check, Faces, Make, Demo, Dissolve, Build, Pyramid}
 
 -- the most bytes of the text of a role
 abbrev pub limit_of : Role → ℕ
@@ -30,6 +30,7 @@ named (Faces file) = (File, file) ∷ []
 named (Make rows cols seed) = []
 named (Demo rows cols seed bound) = []
 named (Dissolve polygons file) = (File, file) ∷ []
+named (Build file) = (File, file) ∷ []
 named (Pyramid bounds file) = (File, file) ∷ []
 
 -- ---- what is held

@@ -7,8 +7,8 @@ use Rattle.grid_exact.specs.Weights.{Scales, IsWeight}
 use Rattle.top_call.specs.declared.forms.Options.{Options}
 use Rattle.top_call.specs.declared.forms.Request.{Request}
 use Rattle.top_call.specs.declared.forms.Request.TheVariants as requests
-use Rattle.top_call.specs.Words.{Form, Simplify, Layers, Check, Faces, Make, Demo, Dissolve, Pyramid, is_name, are_names, polygons_in}
-use Rattle.top_call.specs.Words.{bounds_in}
+use Rattle.top_call.specs.Words.{Form, Simplify, Layers, Check, Faces, Make, Demo, Dissolve, Build, Pyramid, is_name, are_names}
+use Rattle.top_call.specs.Words.{polygons_in, bounds_in}
 
 -- the bytes of each word
 abbrev pub bytes_of : List (String Global) → List (List ℕ)
@@ -23,6 +23,7 @@ form (requests.Faces file) = Faces file.now
 form (requests.Make rows cols seed) = Make rows cols seed
 form (requests.Demo rows cols seed bound) = Demo rows cols seed bound
 form (requests.Dissolve list file) = Dissolve (polygons_in list.now) file.now
+form (requests.Build file) = Build file.now
 form (requests.Pyramid list file) = Pyramid (bounds_in list.now) file.now
 
 -- ---- limits
@@ -73,6 +74,7 @@ IsWithinLimits (Faces file) = IsTrue (is_name file)
 IsWithinLimits (Make rows cols seed) = IsMakeable rows cols seed
 IsWithinLimits (Demo rows cols seed bound) = IsMakeable rows cols seed × IsBound bound
 IsWithinLimits (Dissolve polygons file) = ArePolygons polygons × IsTrue (is_name file)
+IsWithinLimits (Build file) = IsTrue (is_name file)
 IsWithinLimits (Pyramid bounds file) = AreBounds bounds × IsTrue (is_name file)
 
 -- ---- the words of a form
@@ -105,6 +107,7 @@ spelling (Faces file) = codes "faces" ∷ file ∷ []
 spelling (Make rows cols seed) = codes "make" ∷ decimal rows ∷ decimal cols ∷ decimal seed ∷ []
 spelling (Demo rows cols seed bound) = codes "demo" ∷ decimal rows ∷ decimal cols ∷ decimal seed ∷ digits bound ∷ []
 spelling (Dissolve polygons file) = codes "dissolve" ∷ list_word polygons ∷ file ∷ []
+spelling (Build file) = codes "build" ∷ file ∷ []
 spelling (Pyramid bounds file) = codes "pyramid" ∷ list_word bounds ∷ file ∷ []
 
 -- the words spell this form, which is within its limits, or they spell none that is

@@ -118,6 +118,7 @@ pub data Form : Type 0 where
   Make : (rows cols seed : ℕ) → Form
   Demo : (rows cols seed : ℕ) (bound : ℤ) → Form
   Dissolve : (polygons file : List ℕ) → Form
+  Build : (file : List ℕ) → Form
   Pyramid : (bounds file : List ℕ) → Form
 
 -- what stands behind E: FILE, or FILE OUT CERT
@@ -175,6 +176,11 @@ abbrev pub dissolve_form : List (List ℕ) → Option Form
 dissolve_form (list ∷ file ∷ []) = if is_polygon_list list && is_name file then Some (Dissolve (polygons_in list) file) else None
 dissolve_form words = None
 
+-- `build FILE`
+abbrev pub build_form : List (List ℕ) → Option Form
+build_form (file ∷ []) = if is_name file then Some (Build file) else None
+build_form words = None
+
 -- `pyramid BOUNDS FILE`
 abbrev pub pyramid_form : List (List ℕ) → Option Form
 pyramid_form (list ∷ file ∷ []) = if is_bound_list list && is_name file then Some (Pyramid (bounds_in list) file) else None
@@ -190,6 +196,7 @@ command_form command words =
     else if bytes_eq command (codes "make") then make_form words
     else if bytes_eq command (codes "demo") then demo_form words
     else if bytes_eq command (codes "dissolve") then dissolve_form words
+    else if bytes_eq command (codes "build") then build_form words
     else if bytes_eq command (codes "pyramid") then pyramid_form words
     else None
 

@@ -1,10 +1,12 @@
 //! The status that tells an error of the crates below.
 ghost use Rattle.std.specs.Prelude.{◌≡◌};
 ghost use Rattle.top_call.specs.Maps.{scan_status, fault_status, check_status};
+ghost use Rattle.top_call.specs.Built.{geo_status};
 
 use crate::status::{Limit, Meeting, Status};
 use arc_map::NoMemory;
 use arrangement_check::CheckError;
+use geo_reader::GeoFault;
 use json_scan::ScanError;
 use std::alloc::AllocError;
 use topo_reader::ReadFault;
@@ -53,6 +55,20 @@ impl From<ReadFault> for Status {
             ReadFault::Off { kind, at } => Status::OffProfile(kind, at),
             ReadFault::TooMany { what, at } => Status::TooLarge(Limit::Many(what, at)),
             ReadFault::NoMemory => Status::NoMemory,
+        }
+    }
+}
+
+// The status of a text that is no GeoJSON of the kind that is read.
+impl From<GeoFault> for Status {
+    ghost from_gives = { λ fault s. s ≡ geo_status fault };
+
+    fn from(fault: GeoFault) -> Self {
+        match fault {
+            GeoFault::Shape { kind, at } => Status::NotGeoJson(kind, at),
+            GeoFault::Off { kind, at } => Status::OffProfile(kind, at),
+            GeoFault::TooMany { what, at } => Status::TooLarge(Limit::Many(what, at)),
+            GeoFault::NoMemory => Status::NoMemory,
         }
     }
 }

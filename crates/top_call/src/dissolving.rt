@@ -2,8 +2,7 @@
 ghost use Rattle.std.specs.Prelude.{◌≡◌, ◌≤◌, ◌<◌, ◌^◌, ◌⊎◌, [], All, IfOk, IfErr, get_or, length};
 ghost use Rattle.topo_reader.specs.Ends.{HasEvenEnds};
 ghost use Rattle.top_call.specs.Words.{polygons_in};
-ghost use Rattle.top_call.specs.Answers.{IsBorderText, IsDissolveAnswer, done, first_missing};
-ghost use Rattle.top_call.specs.Answers.{refused};
+ghost use Rattle.top_call.specs.Answers.{IsBorderRefusal, IsBorderText, IsDissolved, first_missing};
 ghost use Rattle.top_call.specs.Endings.{IsMapStatus};
 
 use crate::demo::no_options;
@@ -42,9 +41,9 @@ fn border_text(alloc: Global, map: &ArcMap, polygons: &[u32]) -> Result<Vec<u8>,
 pub fn dissolved(alloc: Global, list: &str, text: &[u8]) -> Result<Vec<u8>, Status>
     requires { length text.now ≤ 2 ^ 26 }
     ensures written { IfOk result (λ bytes.
-        IsDissolveAnswer (polygons_in list.now) text.now (done bytes.items)) }
+        IsDissolved (polygons_in list.now) text.now bytes.items) }
     ensures refused { IfErr result (λ s. (s ≡ Status.NoMemory)
-        ⊎ IsDissolveAnswer (polygons_in list.now) text.now (refused s)) }
+        ⊎ IsBorderRefusal (polygons_in list.now) text.now s) }
     ensures status { IfErr result IsMapStatus }
 {
     let loaded = load(alloc, &no_options(), text)?;

@@ -29,6 +29,8 @@ pub enum Request<'a> {
     /// Write the border of the polygons whose numbers a word lists, of the map of a text: the word,
     /// and the name of the text.
     Dissolve(&'a str, &'a str),
+    /// Build a topology of the GeoJSON polygons of a text, and write it.
+    Build(&'a str),
     /// Write the rank of each position by the levels of the bounds that a word lists, of the map of
     /// a text: the word, and the name of the text.
     Pyramid(&'a str, &'a str),

@@ -2,6 +2,7 @@
 //! texts and sinks that the caller brings.
 #![tactic(auto)]
 
+mod building;
 mod causes;
 mod checking;
 mod demo;

@@ -3,14 +3,15 @@ ghost use Rattle.std.specs.Prelude.{◌≡◌, ◌++◌, IsTrue, OnOk, OnErr, co
 ghost use Rattle.outside_io.specs.Causes.{HasCause};
 ghost use Rattle.outside_io.specs.Texts.{AppendsPrefix};
 ghost use Rattle.top_call.specs.Parts.{spelled};
-ghost use Rattle.top_call.specs.Messages.{message_of, usage_line, shape_words, off_words};
+ghost use Rattle.top_call.specs.Messages.{message_of, usage_line, shape_words, geo_words};
 ghost use Rattle.top_call.specs.Messages.{what_words, role_words, limit_line, edges_line};
 ghost use Rattle.top_call.specs.Messages.{point_line, meeting_line, off_weights_line};
-ghost use Rattle.top_call.specs.Messages.{no_polygon_line};
+ghost use Rattle.top_call.specs.Messages.{no_polygon_line, off_words};
 
 use crate::parts::{END, Line, NONE, Part, line, numbered, plain, write_parts};
 use crate::status::{Limit, Meeting, Role, Status};
 use arc_map::EdgeRef;
+use geo_reader::GeoKind;
 use outside_io::{Failed, Sink};
 use topo_reader::{OffKind, ShapeKind, What};
 
@@ -28,6 +29,20 @@ fn shape_words(kind: ShapeKind) -> &'static str
         ShapeKind::Unjoined => "unjoined",
         ShapeKind::OpenRing => "open ring",
         ShapeKind::UnknownGeometry => "unknown geometry",
+    }
+}
+
+fn geo_words(kind: GeoKind) -> &'static str
+    ensures { result.now ≡ geo_words kind }
+{
+    match kind {
+        GeoKind::NotObject => "not an object",
+        GeoKind::Missing => "missing member",
+        GeoKind::Twice => "member twice",
+        GeoKind::WrongType => "wrong type",
+        GeoKind::UnknownType => "unknown type",
+        GeoKind::ShortRing => "short ring",
+        GeoKind::OpenRing => "open ring",
     }
 }
 
@@ -73,7 +88,7 @@ fn usage() -> &'static str
         "layers [--hold] [--weights WX WY] E FILE, ",
         "check [--hold] [--weights WX WY] E FILE OUT CERT, ",
         "faces FILE, make R C SEED, demo R C SEED E, dissolve LIST FILE, ",
-        "pyramid BOUNDS FILE\n",
+        "build FILE, pyramid BOUNDS FILE\n",
     )
 }
 
@@ -191,6 +206,7 @@ fn line_of(status: &Status) -> Line
         Status::NoMemory => plain("no memory\n"),
         Status::OffWeights(arc, position) => off_weights_line(*arc, *position),
         Status::NoPolygon(polygon) => no_polygon_line(*polygon),
+        Status::NotGeoJson(kind, at) => placed("not GeoJSON: ", geo_words(*kind), *at),
     }
 }
 

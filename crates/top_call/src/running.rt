@@ -13,8 +13,9 @@ ghost use Rattle.top_call.specs.Answers.{IsAnswer};
 ghost use Rattle.top_call.specs.Endings.{HasFault, IsMapStatus, IsWritten, IsWorkStatus, IsSilent};
 ghost use Rattle.top_call.specs.Endings.{ReadsTexts, names_of, Replies, Settles, Notes};
 ghost use Rattle.top_call.specs.Headline.{Headline, Completes, Judges, ReachesYes, KeepsLines};
-ghost use Rattle.top_call.specs.Headline.{Borders, Levels, IsMaking, IsMakingStatus, Makes};
+ghost use Rattle.top_call.specs.Headline.{Borders, Levels, Builds, IsMaking, IsMakingStatus, Makes};
 
+use crate::building::built;
 use crate::checking::verdict_on;
 use crate::demo::{coverage, demo};
 use crate::dissolving::dissolved;
@@ -117,6 +118,7 @@ fn work<O: Sink>(alloc: Global, request: &Request<'_>, texts: &Texts, out: &mut 
             write_bytes(demo(alloc, *rows, *cols, *seed, *bound), out)
         }
         Request::Dissolve(list, _) => write_bytes(dissolved(alloc, list, &texts.file), out),
+        Request::Build(_) => write_bytes(built(alloc, &texts.file), out),
         Request::Pyramid(list, _) => write_bytes(ranked(alloc, list, &texts.file), out),
     }
 }
@@ -198,8 +200,9 @@ fn tell_end<N: Sink>(note: &mut N, status: &Status)
 /// The named texts are read in the order FILE, OUT, CERT, each within its limit, before any of them
 /// is judged. Then the first that applies is the answer: FILE is no JSON text, or no topology; the
 /// weights take a position off the grid; the map is not arranged and no arcs are to be held; it has
-/// not each polygon of a list; else the work is done. `NoMemory` may stand in place of each of them
-/// until the first byte is written.
+/// not each polygon of a list; else the work is done. For `build` there is only this: FILE is no
+/// JSON text, or no GeoJSON of the kind that is read; else the topology is built. `NoMemory` may
+/// stand in place of each of them until the first byte is written.
 ///
 /// What `simplify` writes is faithful to the text: each byte stands but those of the value of
 /// `arcs`. Each arc there has some of its positions, both ends of each chain among them, and each
@@ -294,6 +297,11 @@ pub fn run<I: Inputs, O: Sink, N: Sink>(
     // within its bound of the edge that skips the vertex.
     ensures levels { IsTrue I.tells → IsTrue O.tells
         → Levels (bytes_of words.now) (I.texts inputs.old) (O.written out.old) (O.written out.new)
+        result }
+
+    // What is written of GeoJSON is the topology that is built of it.
+    ensures builds { IsTrue I.tells → IsTrue O.tells
+        → Builds (bytes_of words.now) (I.texts inputs.old) (O.written out.old) (O.written out.new)
         result }
 
     // A coverage is made and thinned, or a write failed, or memory was wanting.

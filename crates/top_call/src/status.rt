@@ -4,6 +4,7 @@ ghost use Rattle.top_call.specs.Codes.{code_of};
 
 use arc_map::EdgeRef;
 use cert_checker::Reason;
+use geo_reader::GeoKind;
 use topo_reader::{OffKind, ShapeKind, What};
 
 /// Which text a status speaks of.
@@ -70,6 +71,8 @@ pub enum Status {
     OffWeights(u32, u32),
     /// The map has no polygon with this number, the first such of the list.
     NoPolygon(u32),
+    /// The text is no GeoJSON of the kind that a topology is built of, at this place.
+    NotGeoJson(GeoKind, u32),
 }
 
 impl Status {
@@ -91,6 +94,7 @@ impl Status {
             Status::NoMemory => 10,
             Status::OffWeights(_, _) => 13,
             Status::NoPolygon(_) => 14,
+            Status::NotGeoJson(_, _) => 15,
         }
     }
 }

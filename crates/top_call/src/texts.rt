@@ -133,6 +133,7 @@ pub fn read_texts<I: Inputs>(
         Request::Make(_, _, _) => Ok(no_texts(alloc)),
         Request::Demo(_, _, _, _) => Ok(no_texts(alloc)),
         Request::Dissolve(_, file) => read_one(alloc, file, inputs),
+        Request::Build(file) => read_one(alloc, file, inputs),
         Request::Pyramid(_, file) => read_one(alloc, file, inputs),
     }
 }

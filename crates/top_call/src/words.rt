@@ -4,7 +4,8 @@ ghost use Rattle.std.specs.Option.{option_map};
 ghost use Rattle.top_call.specs.Words.{number_between, bound_of, weights_of, is_name, is_standard};
 ghost use Rattle.top_call.specs.Words.{are_names, named_form, bounded_form, weighed_form};
 ghost use Rattle.top_call.specs.Words.{held_form, task_form, faces_form, make_form, demo_form};
-ghost use Rattle.top_call.specs.Words.{dissolve_form, pyramid_form, command_form, form_of};
+ghost use Rattle.top_call.specs.Words.{dissolve_form, build_form, pyramid_form, command_form};
+ghost use Rattle.top_call.specs.Words.{form_of};
 ghost use Rattle.top_call.specs.Requests.{bytes_of, form, Spells};
 
 use crate::forms::{Options, Request};
@@ -261,6 +262,16 @@ fn border_request<'a>(list: &'a str, file: &'a str) -> Option<Request<'a>>
     }
 }
 
+// The request of `build FILE`.
+fn build_request(words: &[String]) -> Option<Request<'_>>
+    ensures { option_map form result ≡ build_form (bytes_of words.now) }
+{
+    match words {
+        [file] if !file.is_empty() => Some(Request::Build(file.as_str())),
+        _ => None,
+    }
+}
+
 // The request of `pyramid BOUNDS FILE`.
 fn pyramid_request(words: &[String]) -> Option<Request<'_>>
     ensures { option_map form result ≡ pyramid_form (bytes_of words.now) }
@@ -297,6 +308,7 @@ fn commanded<'a>(command: &str, words: &'a [String]) -> Option<Request<'a>>
         "make" => make_request(words),
         "demo" => demo_request(words),
         "dissolve" => dissolve_request(words),
+        "build" => build_request(words),
         "pyramid" => pyramid_request(words),
         _ => None,
     }

@@ -22,14 +22,14 @@ use Rattle.topo_reader.specs.Arcs.{AreArcs}
 
 -- ---- a walk that ends well
 
-pub not-ok : {A : Type 0} {P : Type 0} (f : ReadFault) (a : A) → Err f ≡ Ok a → P
+pub not-ok : {A F P : Type 0} (f : F) (a : A) → ◌≡◌ {A = Result A F} (Err f) (Ok a) → P
 not-ok f a h = absurd cc
 
-pub same-ok : {A : Type 0} (a b : A) → ◌≡◌ {A = Result A ReadFault} (Ok a) (Ok b) → a ≡ b
+pub same-ok : {A F : Type 0} (a b : A) → ◌≡◌ {A = Result A F} (Ok a) (Ok b) → a ≡ b
 same-ok a b h = cc
 
 -- a walk that goes on after a step ends well only where the step does
-pub then-ok : {A B : Type 0} (given : Result A ReadFault) (walk : A → Result B ReadFault) (b : B) → and_then given walk ≡ Ok b
+pub then-ok : {A B F : Type 0} (given : Result A F) (walk : A → Result B F) (b : B) → and_then given walk ≡ Ok b
     → (a : A) × (given ≡ Ok a) × (walk a ≡ Ok b)
 then-ok (Ok a) walk b h = (a, refl, h)
 then-ok (Err f) walk b h = not-ok f b h

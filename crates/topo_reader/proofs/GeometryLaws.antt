@@ -30,12 +30,12 @@ use Rattle.topo_reader.proofs.ArcLaws.{not-ok, same-ok, then-ok, counted-ok}
 
 -- ---- walks that end well
 
-either-ok : {A : Type 0} {P : Type 0} (b : Bool) (x y : Result A ReadFault) (a : A) → cond b x y ≡ Ok a → (x ≡ Ok a → P) → (y ≡ Ok a → P)
+pub either-ok : {A F P : Type 0} (b : Bool) (x y : Result A F) (a : A) → cond b x y ≡ Ok a → (x ≡ Ok a → P) → (y ≡ Ok a → P)
     → P
 either-ok true x y a h f g = f h
 either-ok false x y a h f g = g h
 
-each-keeps : {S : Type 0} (P : S → Type 0) (one : Tree → S → Result S ReadFault)
+pub each-keeps : {S F : Type 0} (P : S → Type 0) (one : Tree → S → Result S F)
     → ((t : Tree) (before after : S) → P before → one t before ≡ Ok after → P after) → (trees : Trees) (before after : S) → P before
     → each one trees before ≡ Ok after → P after
 each-keeps P one keeps NoTrees before after is h = subst P (same-ok before after h) is

@@ -33,7 +33,7 @@ listed-size (TextAt e word) trees h = absurd cc
 listed-size (ListAt e others) trees h = ap (λ (ts : Trees). 1 + sizes ts) (same-ok others trees (sym h))
 listed-size (ObjectAt e members) trees h = absurd cc
 
-among-size : (t : Tree) (members : Entries) → IsAmong t members → size t ≤ entry_sizes members
+pub among-size : (t : Tree) (members : Entries) → IsAmong t members → size t ≤ entry_sizes members
 among-size t NoEntries is = absurd is
 among-size t (NextEntry e word value others) (inl same) = omega (arith, ap size same)
 among-size t (NextEntry e word value others) (inr further) = omega (arith, among-size t others further)

@@ -51,7 +51,7 @@ two-keep base p first second h =
     subst IsGridPlace (same-ok (record { x = across.0; y = up.0 }) p up.2)
     (number-keeps base.x across.0 first across.1, number-keeps base.y up.0 second up.1)
 
-position-keeps : (base p : Place) (t : Tree) → position_of base t ≡ Ok p → IsGridPlace p
+pub position-keeps : (base p : Place) (t : Tree) → position_of base t ≡ Ok p → IsGridPlace p
 position-keeps base p t h =
     let listed = then-ok (list_of t) (position_from base t) p h in
     at_trees listed.0 listed.2

@@ -39,7 +39,7 @@ use Rattle.topo_writer.proofs.Fitting.{IsFitting, fitting}
 -- ---- UTF-8
 
 -- a text before an ASCII byte, and the text from there on
-cut-before : (front back : List ℕ) → BeginsAscii back → IsUtf8 (front ++ back) → IsUtf8 front × IsUtf8 back
+pub cut-before : (front back : List ℕ) → BeginsAscii back → IsUtf8 (front ++ back) → IsUtf8 front × IsUtf8 back
 cut-before front [] begins utf8 = absurd begins
 cut-before front (b ∷ bs) begins utf8 =
     let text = front ++ b ∷ bs in
@@ -75,11 +75,11 @@ spliced-is text front part back other start end is from to =
 abbrev front_of : Bool → List ℕ → List ℕ → List ℕ
 front_of mark before front = mark_then mark (before ++ (123 ∷ front))
 
-mark-append : (mark : Bool) (a b : List ℕ) → mark_then mark (a ++ b) ≡ mark_then mark a ++ b
+pub mark-append : (mark : Bool) (a b : List ℕ) → mark_then mark (a ++ b) ≡ mark_then mark a ++ b
 mark-append true a b = refl
 mark-append false a b = refl
 
-mark-length : (mark : Bool) (a : List ℕ) → length (mark_then mark a) ≡ (if mark then 3 else 0) + length a
+pub mark-length : (mark : Bool) (a : List ℕ) → length (mark_then mark a) ≡ (if mark then 3 else 0) + length a
 mark-length true a = omega arith
 mark-length false a = omega arith
 
@@ -93,7 +93,7 @@ front-length : (mark : Bool) (before front : List ℕ) → length (front_of mark
 front-length mark before front = omega (arith, mark-length mark (before ++ (123 ∷ front)), length-append before (123 ∷ front))
 
 -- a value stands from its place on, as wide as it is
-extent-is : (v : Value) (place : ℕ) → extent_of (value_tree v place) ≡ extent place (value_width v)
+pub extent-is : (v : Value) (place : ℕ) → extent_of (value_tree v place) ≡ extent place (value_width v)
 extent-is Null place = refl
 extent-is False place = refl
 extent-is True place = refl

@@ -20,7 +20,7 @@ abbrev pub BeginsAscii : List ℕ → Type 0
 BeginsAscii [] = ⊥
 BeginsAscii (b ∷ bs) = b < 128
 
-white-ascii : (b : ℕ) → is_white b ≡ true → b < 128
+pub white-ascii : (b : ℕ) → is_white b ≡ true → b < 128
 white-ascii b white = grind arith
 
 gap-begins : (gap rest : List ℕ) → IsGap gap → BeginsAscii rest → BeginsAscii (gap ++ rest)
@@ -28,17 +28,17 @@ gap-begins [] rest is begins = begins
 gap-begins (b ∷ bs) rest is begins = white-ascii b is.0
 
 -- a name and its colon, and the white space round them
-abbrev head_of : List ℕ → List Piece → List ℕ → List ℕ → List ℕ
+abbrev pub head_of : List ℕ → List Piece → List ℕ → List ℕ → List ℕ
 head_of before name behind ahead = before ++ quoted_then name (behind ++ (58 ∷ ahead))
 
-head-then : (before : List ℕ) (name : List Piece) (behind ahead rest : List ℕ)
+pub head-then : (before : List ℕ) (name : List Piece) (behind ahead rest : List ℕ)
     → before ++ quoted_then name (behind ++ (58 ∷ (ahead ++ rest))) ≡ head_of before name behind ahead ++ rest
 head-then before name behind ahead rest =
     ap (λ (l : List ℕ). before ++ l) (ap (quoted_then name) (sym (append_assoc behind (58 ∷ ahead) rest))
     ∙ quoted-append name (behind ++ (58 ∷ ahead)) rest)
     ∙ sym (append_assoc before (quoted_then name (behind ++ (58 ∷ ahead))) rest)
 
-head-length : (before : List ℕ) (name : List Piece) (behind ahead : List ℕ)
+pub head-length : (before : List ℕ) (name : List Piece) (behind ahead : List ℕ)
     → length (head_of before name behind ahead) ≡ length before + quoted_width name + length behind + 1 + length ahead
 head-length before name behind ahead =
     omega (
@@ -49,10 +49,10 @@ head-length before name behind ahead =
     )
 
 -- a whole member, and the comma behind it
-abbrev member_of : List ℕ → List Piece → List ℕ → List ℕ → Value → List ℕ → List ℕ → List ℕ
+abbrev pub member_of : List ℕ → List Piece → List ℕ → List ℕ → Value → List ℕ → List ℕ → List ℕ
 member_of before name behind ahead v after rest = members_then (LastMember before name behind ahead v after) (44 ∷ rest)
 
-member-length : (before : List ℕ) (name : List Piece) (behind ahead : List ℕ) (v : Value) (after rest : List ℕ)
+pub member-length : (before : List ℕ) (name : List Piece) (behind ahead : List ℕ) (v : Value) (after rest : List ℕ)
     → length (member_of before name behind ahead v after rest) ≡ length before + quoted_width name + length behind + 1 + length ahead
     + value_width v + length after + 1 + length rest
 member-length before name behind ahead v after rest =

@@ -31,7 +31,8 @@ loop-item-preserved c =
       one_counted c.loop-item.strays.items c.push_within.new.strays.items c.near_stray.result seen e _ items h.3,
       c.push_within.ensures.count,
       c.push_within.ensures.capacity ∙ h.5,
-      strays_more s.direction.frame s.direction.rising s.chain.now s.number s.steps c.args.part.now c.args.strays.now.items seen c.loop-item.strays.items
+      strays_more s.direction.frame s.direction.rising s.chain.now s.number s.steps c.args.part.now c.args.strays.now.items seen
+          c.loop-item.strays.items
           c.push_within.new.strays.items c.in-Some.field-0-0 c.in-Some.item c.near_stray.result h.6
           (record { some = c.near_stray.ensures.some; all = c.near_stray.ensures.all }) items,
     )

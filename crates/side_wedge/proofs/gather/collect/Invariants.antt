@@ -12,5 +12,6 @@ invariant-loop-item l =
     (length l.strays.items ≤ length l.fn.strays.items + length l.yielded) ×
     (vec_len l.strays ≤ l.room) ×
     (vec_capacity l.strays ≡ vec_capacity l.fn.strays) ×
-    AreStraysOf l.subject.direction.frame l.subject.direction.rising l.subject.chain.now l.subject.number l.subject.steps l.part l.fn.strays.items l.yielded
+    AreStraysOf l.subject.direction.frame l.subject.direction.rising l.subject.chain.now l.subject.number l.subject.steps l.part
+    l.fn.strays.items l.yielded
     l.strays.items

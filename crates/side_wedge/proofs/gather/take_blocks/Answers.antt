@@ -8,7 +8,8 @@ loop-start-init c =
     let s = c.args.subject.now in
     record {
       within = omega (arith, c.requires.several);
-      taken = none_taken s.direction.frame s.direction.rising s.chain.now s.number s.steps c.args.map.now c.clear.new.self.items (search rules);
+      taken = none_taken s.direction.frame s.direction.rising s.chain.now s.number s.steps c.args.map.now c.clear.new.self.items
+          (search rules);
       count = search rules;
       capacity = search rules;
     }

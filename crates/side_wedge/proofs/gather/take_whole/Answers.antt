@@ -10,5 +10,6 @@ returns-clause-strays c =
     let empty : c.clear.new.self.items ≡ [] = search rules in
     let size = ap length empty in
     let all = c.collect-all.ensures.all (omega (arith, c.in_box.ensures.few, c.item_count.ensures, size)) in
-    whole_taken s.direction.frame s.direction.rising s.chain.now s.number s.steps c.args.map.now c.args.whole.now (items_left c.in_box.result)
+    whole_taken s.direction.frame s.direction.rising s.chain.now s.number s.steps c.args.map.now c.args.whole.now
+    (items_left c.in_box.result)
     c.clear.new.self.items c.collect-all.new.strays.items c.in_box.ensures c.requires.round empty (c.collect-all.ensures.strays all)

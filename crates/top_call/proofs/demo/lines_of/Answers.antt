@@ -1,7 +1,7 @@
 -- The parts, one after the other.
 use Rattle.std.proofs.Common.{length}
 use Rattle.std.proofs.lemmas.Result.{IfOk-weaker}
-use Rattle.std.proofs.Common.{◌≡◌, ◌∙◌}
+use Rattle.std.proofs.Common.{◌∙◌}
 use Rattle.top_call.specs.Answers.{position_count}
 use Rattle.top_call.proofs.CountLines.{counted_lines}
 use Rattle.top_call.proofs.demo.lines_of.Goals as goal

@@ -1,6 +1,5 @@
 -- The word before the first comma, or the whole list.
-use Rattle.std.proofs.Common.{◌≡◌, ◌==◌, ◌∷◌, ◌++◌, ℕ, List, [], All, Some, None, false, length, get_or, refl, sym, ap, rules, arith}
-use Rattle.std.specs.Prelude.{◌≢◌, ◌<◌}
+use Rattle.std.proofs.Common.{Some, None, rules, arith}
 use Rattle.std.proofs.lemmas.Str.Pattern.{split_parts}
 use Rattle.top_call.proofs.ListWords.{cut_at_comma, uncut}
 use Rattle.top_call.proofs.lists.cut.Goals as goal

@@ -1,8 +1,7 @@
 -- The map is arranged, and the ranks are those by the bounds of the list; or the text is refused.
-use Rattle.std.proofs.Common.{◌∙◌, ℤ, List, subst, sym, arith}
+use Rattle.std.proofs.Common.{◌∙◌}
 use Rattle.std.proofs.lemmas.Result.{err_from_is_err_and}
 use Rattle.top_call.specs.Words.{bounds_in}
-use Rattle.top_call.specs.Answers.{IsRanksText}
 use Rattle.top_call.specs.Maps.{topology_in}
 use Rattle.top_call.proofs.Ranked.{loaded_is_arranged, ranked_by, refused_plain}
 use Rattle.top_call.proofs.ranking.ranked.Goals as goal

@@ -5,7 +5,7 @@ use Rattle.top_call.specs.Requests.{bytes_of}
 use Rattle.top_call.proofs.Judging.{judges}
 use Rattle.top_call.proofs.AnswerOfWords.{answer_is_one}
 use Rattle.top_call.proofs.Finished.{reaches_yes, keeps_lines}
-use Rattle.top_call.proofs.Promised.{headline, borders, levels, completes}
+use Rattle.top_call.proofs.Promised.{headline, borders, levels, builds, completes}
 use Rattle.top_call.proofs.Settled.{settled_as}
 use Rattle.top_call.proofs.running.run.Goals as goal
 
@@ -22,6 +22,11 @@ returns-clause-borders g c = λ tells told.
 pub returns-clause-levels : goal.returns-clause-levels
 returns-clause-levels g c = λ tells told.
     levels (bytes_of c.args.words.now) (g.I.Inputs.texts c.args.inputs.now) g.O.Sink.tells (g.O.Sink.written c.args.out.now)
+    (g.O.Sink.written c.answer-status.new.out) c.answer-status.result (c.answer-status.ensures.answers tells) told
+
+pub returns-clause-builds : goal.returns-clause-builds
+returns-clause-builds g c = λ tells told.
+    builds (bytes_of c.args.words.now) (g.I.Inputs.texts c.args.inputs.now) g.O.Sink.tells (g.O.Sink.written c.args.out.now)
     (g.O.Sink.written c.answer-status.new.out) c.answer-status.result (c.answer-status.ensures.answers tells) told
 
 pub returns-clause-complete : goal.returns-clause-complete

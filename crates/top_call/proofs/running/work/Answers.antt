@@ -5,10 +5,12 @@ use Rattle.top_call.specs.declared.forms.Request.{Request}
 use Rattle.top_call.specs.Requests.{form}
 use Rattle.top_call.specs.Words.{polygons_in, bounds_in}
 use Rattle.top_call.specs.Reading.{texts_read}
-use Rattle.top_call.specs.Answers.{done, plain, IsSimplified, IsCertified, IsDemoed, IsRanked, IsMadeAnswer, IsWorkAnswer}
+use Rattle.top_call.specs.Maps.{IsRefusal}
+use Rattle.top_call.specs.Built.{IsGeoRefusal, IsBuiltOf}
+use Rattle.top_call.specs.Answers.{done, plain, IsSimplified, IsCertified, IsDemoed, IsBorderRefusal, IsDissolved, IsRanked, IsMadeAnswer}
+use Rattle.top_call.specs.Answers.{IsWorkAnswer}
 use Rattle.top_call.specs.Endings.{Settles}
-use Rattle.top_call.proofs.Borders.{dissolve_settles}
-use Rattle.top_call.proofs.Settled.{map_settles, check_settles, faces_settles, made_settles}
+use Rattle.top_call.proofs.Settled.{text_settles, check_settles, faces_settles, made_settles}
 use Rattle.top_call.proofs.running.work.Goals as goal
 
 pub returns-in-Simplify-clause-answers : goal.returns-in-Simplify-clause-answers
@@ -16,7 +18,7 @@ returns-in-Simplify-clause-answers g c =
     let read = texts_read c.args.texts.now in
     subst (λ (r : Request). Settles (IsWorkAnswer (form r) read) g.O.Sink.tells (g.O.Sink.written c.args.out.now)
     (g.O.Sink.written c.write_bytes.new.out) c.write_bytes.result) (sym c.in-Simplify.is)
-    (map_settles g.O.Sink.written c.args.out.now c.write_bytes.new.out c.in-Simplify.options
+    (text_settles g.O.Sink.written c.args.out.now c.write_bytes.new.out (λ text s. IsRefusal c.in-Simplify.options text s)
     (λ text bytes. IsSimplified c.in-Simplify.options c.in-Simplify.bound text bytes) c.deref.result.now read.file g.O.Sink.tells
     c.simplified.result c.write_bytes.result c.deref.ensures.value c.simplified.ensures.written c.simplified.ensures.refused
     c.simplified.ensures.status c.write_bytes.ensures.replies c.write_bytes.ensures.refused)
@@ -26,7 +28,7 @@ returns-in-Layers-clause-answers g c =
     let read = texts_read c.args.texts.now in
     subst (λ (r : Request). Settles (IsWorkAnswer (form r) read) g.O.Sink.tells (g.O.Sink.written c.args.out.now)
     (g.O.Sink.written c.write_bytes-in-Layers.new.out) c.write_bytes-in-Layers.result) (sym c.in-Layers.is)
-    (map_settles g.O.Sink.written c.args.out.now c.write_bytes-in-Layers.new.out c.in-Layers.options
+    (text_settles g.O.Sink.written c.args.out.now c.write_bytes-in-Layers.new.out (λ text s. IsRefusal c.in-Layers.options text s)
     (λ text bytes. IsCertified c.in-Layers.options c.in-Layers.bound text bytes) c.deref-in-Layers.result.now read.file g.O.Sink.tells
     c.certified.result c.write_bytes-in-Layers.result c.deref-in-Layers.ensures.value c.certified.ensures.written
     c.certified.ensures.refused c.certified.ensures.status c.write_bytes-in-Layers.ensures.replies
@@ -76,9 +78,10 @@ returns-in-Dissolve-clause-answers g c =
     let read = texts_read c.args.texts.now in
     subst (λ (r : Request). Settles (IsWorkAnswer (form r) read) g.O.Sink.tells (g.O.Sink.written c.args.out.now)
     (g.O.Sink.written c.write_bytes-in-Dissolve.new.out) c.write_bytes-in-Dissolve.result) (sym c.in-Dissolve.is)
-    (dissolve_settles g.O.Sink.written c.args.out.now c.write_bytes-in-Dissolve.new.out
-    (polygons_in c.in-Dissolve.list.now) c.deref-in-Dissolve.result.now read.file g.O.Sink.tells
-    c.dissolved.result c.write_bytes-in-Dissolve.result c.deref-in-Dissolve.ensures.value c.dissolved.ensures.written
+    (text_settles g.O.Sink.written c.args.out.now c.write_bytes-in-Dissolve.new.out
+    (λ text s. IsBorderRefusal (polygons_in c.in-Dissolve.list.now) text s)
+    (λ text bytes. IsDissolved (polygons_in c.in-Dissolve.list.now) text bytes) c.deref-in-Dissolve.result.now read.file
+    g.O.Sink.tells c.dissolved.result c.write_bytes-in-Dissolve.result c.deref-in-Dissolve.ensures.value c.dissolved.ensures.written
     c.dissolved.ensures.refused c.dissolved.ensures.status c.write_bytes-in-Dissolve.ensures.replies
     c.write_bytes-in-Dissolve.ensures.refused)
 
@@ -87,7 +90,17 @@ returns-in-Pyramid-clause-answers g c =
     let read = texts_read c.args.texts.now in
     subst (λ (r : Request). Settles (IsWorkAnswer (form r) read) g.O.Sink.tells (g.O.Sink.written c.args.out.now)
     (g.O.Sink.written c.write_bytes-in-Pyramid.new.out) c.write_bytes-in-Pyramid.result) (sym c.in-Pyramid.is)
-    (map_settles g.O.Sink.written c.args.out.now c.write_bytes-in-Pyramid.new.out plain
+    (text_settles g.O.Sink.written c.args.out.now c.write_bytes-in-Pyramid.new.out (λ text s. IsRefusal plain text s)
     (λ text bytes. IsRanked (bounds_in c.in-Pyramid.list.now) text bytes) c.deref-in-Pyramid.result.now read.file g.O.Sink.tells
     c.ranked.result c.write_bytes-in-Pyramid.result c.deref-in-Pyramid.ensures.value c.ranked.ensures.written c.ranked.ensures.refused
     c.ranked.ensures.status c.write_bytes-in-Pyramid.ensures.replies c.write_bytes-in-Pyramid.ensures.refused)
+
+pub returns-in-Build-clause-answers : goal.returns-in-Build-clause-answers
+returns-in-Build-clause-answers g c =
+    let read = texts_read c.args.texts.now in
+    subst (λ (r : Request). Settles (IsWorkAnswer (form r) read) g.O.Sink.tells (g.O.Sink.written c.args.out.now)
+    (g.O.Sink.written c.write_bytes-in-Build.new.out) c.write_bytes-in-Build.result) (sym c.in-Build.is)
+    (text_settles g.O.Sink.written c.args.out.now c.write_bytes-in-Build.new.out (λ text s. IsGeoRefusal text s)
+    (λ text bytes. IsBuiltOf text bytes) c.deref-in-Build.result.now read.file g.O.Sink.tells c.built.result
+    c.write_bytes-in-Build.result c.deref-in-Build.ensures.value c.built.ensures.written c.built.ensures.refused
+    c.built.ensures.status c.write_bytes-in-Build.ensures.replies c.write_bytes-in-Build.ensures.refused)

@@ -19,7 +19,8 @@ pub returns-then-entry-count-clause-equal : goal.returns-then-entry-count-clause
 returns-then-entry-count-clause-equal c = (
   λ t. absurd (true≢false t),
   λ same.
-      absurd (differ_not_equal _ _ c.loop-k.entry (ended_by_entries c.args.self.now.held c.args.self.now.work.refs c.args.records.now.entries
+      absurd (differ_not_equal _ _ c.loop-k.entry (ended_by_entries c.args.self.now.held c.args.self.now.work.refs
+      c.args.records.now.entries
       c.loop-k.entry c.loop-k.k c.place-place.result c.loop-k.invariant c.place-place.ensures (sym (c.is_free.ensures c.loop-k.k)
       ∙ c.if-is_free.true) (omega (arith, c.if-entry-count.true, c.count.ensures.value))) same),
 )

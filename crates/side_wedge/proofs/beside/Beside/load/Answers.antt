@@ -43,7 +43,8 @@ returns-clause-beside c =
     } in
     let steps = c.of.result in
     laid_beside w c.args.k c.rises-rising.result steps strays b
-    (laid_by w c.args.k c.rises-rising.result steps strays b c.chain-chain.result.now rows c.frame-frame.ensures c.chain-chain.ensures.places refl
+    (laid_by w c.args.k c.rises-rising.result steps strays b c.chain-chain.result.now rows c.frame-frame.ensures
+    c.chain-chain.ensures.places refl
     c.rises-rising.ensures c.gather.ensures.strays starts of c.chain-chain.ensures.edges)
 
 pub returns-clause-reach : goal.returns-clause-reach
@@ -74,5 +75,6 @@ returns-clause-reach c =
       bound_low =
           told.in_range.2;
     })
-    (laid_by w c.args.k c.rises-rising.result steps strays b c.chain-chain.result.now rows c.frame-frame.ensures c.chain-chain.ensures.places refl
+    (laid_by w c.args.k c.rises-rising.result steps strays b c.chain-chain.result.now rows c.frame-frame.ensures
+    c.chain-chain.ensures.places refl
     c.rises-rising.ensures c.gather.ensures.strays starts of c.chain-chain.ensures.edges)

@@ -1,0 +1,5 @@
+pub mod Holding
+pub mod Collected
+pub mod Flats
+pub mod RingLaws
+pub mod GeoLaws

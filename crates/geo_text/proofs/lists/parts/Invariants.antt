@@ -1,0 +1,15 @@
+use Rattle.std.specs.Prelude.{codes}
+use Rattle.std.proofs.Common.{◌≡◌}
+use Rattle.json_scan.specs.Shown.{tree}
+use Rattle.json_scan.specs.Left.{trees}
+use Rattle.geo_text.specs.Drafts.{written, with_ring, each_added, list_added}
+use Rattle.geo_text.specs.Written.{draft_of}
+use Rattle.geo_text.proofs.lists.parts.Given as goal
+
+abbrev pub invariant-loop-item : goal.invariant-loop-item
+invariant-loop-item l = record {
+  same : list_added (list_added (λ t. with_ring)) (tree l.fn.value) (draft_of l.fn.writer)
+      ≡ written (codes "]") (each_added (list_added (λ t. with_ring)) l.first (trees l.item-iterator) (draft_of l.writer));
+  can : (goal.iterator-loop-item).can_next l.item-iterator;
+  ends : (goal.iterator-loop-item).is_finite l.item-iterator;
+}

@@ -1,0 +1,9 @@
+pub mod Cyclic
+pub mod Junctions
+pub mod References
+pub mod Built
+pub mod Clean
+pub mod Passages
+pub mod Table
+pub mod Found
+pub mod Cutting
