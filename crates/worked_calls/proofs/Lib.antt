@@ -1,3 +1,2 @@
-mod ArrangedChains
 mod OneBump
 mod RisingArcs

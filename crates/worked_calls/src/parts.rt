@@ -1,9 +1,6 @@
 //! What the tests have in common.
-ghost use Rattle.std.specs.Prelude.{All, IsTrue};
-ghost use Rattle.grid_exact.specs.Weights.{StaysOnGrid};
 
-use arc_map::ArcMap;
-use grid_exact::{Point, Weights};
+use grid_exact::Point;
 use std::alloc::Global;
 use std::test::Fail;
 use sweep_index::Walk;
@@ -22,17 +19,4 @@ pub fn numbers(alloc: Global, walk: Walk<'_>) -> Result<Vec<u32>, Fail> {
     }
     numbers.sort_unstable();
     Ok(numbers)
-}
-
-// Whether the weights leave each position of each arc on the grid.
-pub fn stays_on_grid(weights: Weights, map: &ArcMap) -> bool
-    ensures { IsTrue result → All (All (StaysOnGrid weights)) map.now.arcs }
-{
-    for arc in 0..map.arc_count() {
-        match weights.first_off(map.arc(arc)) {
-            None => {}
-            Some(_) => return false,
-        }
-    }
-    true
 }

@@ -4,7 +4,7 @@ use Rattle.grid_exact.specs.Geometry.{IsGridNumber}
 use Rattle.grid_exact.proofs.WholeLaws.{fits}
 use Rattle.shortcut_graph.specs.Weighed.{IsColumn}
 use Rattle.shortcut_graph.proofs.Coordinates.{place_more}
-use Rattle.worked_calls.proofs.graph.across.Goals as goal
+use Rattle.worked_runs.proofs.graph.across.Goals as goal
 
 pub loop-place-preserved : goal.loop-place-preserved
 loop-place-preserved c =

@@ -1,6 +1,6 @@
 -- The coordinates so far.
 use Rattle.shortcut_graph.specs.Weighed.{IsColumn}
-use Rattle.worked_calls.proofs.graph.up.Given as goal
+use Rattle.worked_runs.proofs.graph.across.Given as goal
 
 abbrev pub invariant-loop-place : goal.invariant-loop-place
-invariant-loop-place l = IsColumn (λ p. p.y) l.places l.ys.items l.place-index
+invariant-loop-place l = IsColumn (λ p. p.x) l.places l.xs.items l.place-index

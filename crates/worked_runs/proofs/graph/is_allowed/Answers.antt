@@ -1,6 +1,6 @@
 -- The coordinates are those of the chain, with the weights 1 and 1.
 use Rattle.shortcut_graph.proofs.Coordinates.{weighed_by_one}
-use Rattle.worked_calls.proofs.graph.is_allowed.Goals as goal
+use Rattle.worked_runs.proofs.graph.is_allowed.Goals as goal
 
 pub fill-requires-clause-weighed : goal.fill-requires-clause-weighed
 fill-requires-clause-weighed c =

@@ -5,7 +5,7 @@ use Rattle.std.proofs.lemmas.List.Elements.{All-more}
 use Rattle.std.proofs.lemmas.Option.{get_or_from_slice_get}
 use Rattle.grid_exact.specs.Geometry.{Place}
 use Rattle.grid_exact.specs.Weights.{StaysOnGrid}
-use Rattle.worked_calls.proofs.parts.stays_on_grid.Goals as goal
+use Rattle.worked_runs.proofs.parts.stays_on_grid.Goals as goal
 
 pub loop-arc-preserved : goal.loop-arc-preserved
 loop-arc-preserved c =

@@ -3,8 +3,8 @@ use Rattle.std.proofs.Common.{sym, subst, ◌∙◌}
 use Rattle.arc_map.specs.Arranged.{IsArranged}
 use Rattle.arc_map.specs.Chains.{IsClearIn}
 use Rattle.arc_map.specs.Work.{Work}
-use Rattle.worked_calls.proofs.ArrangedChains.{is_clear}
-use Rattle.worked_calls.proofs.graph.indexed.Goals as goal
+use Rattle.worked_runs.proofs.ArrangedChains.{is_clear}
+use Rattle.worked_runs.proofs.graph.indexed.Goals as goal
 
 pub returns-in-Ok-build : goal.returns-in-Ok-build
 returns-in-Ok-build c k =
