@@ -6,12 +6,14 @@
 mod call;
 mod error;
 mod faults;
+mod hard;
 mod row;
 mod texts;
 mod timed;
 
 use error::RowsError;
 use faults::{every_failing_read, every_failing_write, every_prefix};
+use hard::{Shape, is_hard_thinned};
 use row::{Difference, Row, find, list_of, read, text_in};
 use serde_json::Value;
 use std::fs;
@@ -122,6 +124,27 @@ fn run_generated<R: Print + AllocGlobal>(rt: &R) -> Result<bool, RowsError> {
     Ok(small && large && checks && points && faces)
 }
 
+// Runs the maps on which a simplifier can turn quadratic, and prints their lines. Whether all are
+// thinned.
+fn run_hard<R: Print + AllocGlobal>(rt: &R) -> Result<bool, RowsError> {
+    let mut all = true;
+    for (name, shape, arcs, positions) in [
+        ("1000 nested rings", Shape::Nested, 1000, 201),
+        ("20000 arcs from one place", Shape::Hub, 20000, 2),
+        (
+            "one arc of 250000 positions to and fro",
+            Shape::Zigzag,
+            1,
+            250000,
+        ),
+        ("50 slanting chains", Shape::Slanting, 50, 1024),
+    ] {
+        let thinned = is_hard_thinned(rt.alloc(), shape, arcs, positions)?;
+        all &= print_line(rt, name, thinned)?;
+    }
+    Ok(all)
+}
+
 // Runs everything, and prints the lines. Whether all agree.
 fn run_all<R: Print + Files + AllocGlobal>(rt: &R) -> Result<bool, RowsError> {
     let text = fs::read_to_string(rt, ROWS)?;
@@ -130,7 +153,8 @@ fn run_all<R: Print + Files + AllocGlobal>(rt: &R) -> Result<bool, RowsError> {
     let table = run_rows(rt, rows)?;
     let provinces = run_provinces(rt, find(rows, PROVINCES)?)?;
     let generated = run_generated(rt)?;
-    Ok(table && provinces && generated)
+    let hard = run_hard(rt)?;
+    Ok(table && provinces && generated && hard)
 }
 
 fn main(rt: HostRuntime) -> ExitCode {
