@@ -15,3 +15,4 @@ pub mod Growing
 pub mod Meeting
 pub mod Paired
 pub mod Slabbing
+pub mod Marked

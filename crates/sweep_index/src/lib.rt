@@ -3,10 +3,12 @@
 
 mod area;
 mod bands;
+mod dealing;
 mod edges;
 mod entries;
 mod grid;
 mod index;
+mod ordering;
 mod slabs;
 mod sweep;
 mod things;
