@@ -107,7 +107,8 @@ fn chains_let(work: &WorkMap, k: u32, first: Point, rest: &[Point]) -> bool
 // Whether the chain with these vertices lets the run become the segment.
 fn chain_lets(chain: &[Point], first: Point, rest: &[Point]) -> bool
     requires { 0 < length rest.now }
-    ensures { IsTrue result ↔ LetsRun first (run_inner rest.now) (run_end first rest.now) chain.now }
+    ensures { IsTrue result
+        ↔ LetsRun first (run_inner rest.now) (run_end first rest.now) chain.now }
 {
     for p in chain {
         if !is_consistent(first, rest, *p) {

@@ -135,7 +135,8 @@ impl RunState {
     /// The map as it is now, and the records. All chains are done.
     pub fn finish(self) -> Outcome
         requires { self.next ≡ length self.work.chains }
-        ensures outcome { IsOutcome self.work.read self.terms result.map.map result.records.entries }
+        ensures outcome { IsOutcome self.work.read self.terms result.map.map
+            result.records.entries }
         ensures held { result.map.held ≡ self.terms.held }
         ensures faces { KeepsFaces self.terms.held self.work.read result.map.map }
     {

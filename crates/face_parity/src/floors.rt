@@ -76,7 +76,8 @@ impl Floors {
 
 // The spans of the arcs of the map.
 fn spans_of(alloc: Global, topology: &ArcMap) -> Result<Vec<Span>, AllocError>
-    ensures { IfOk result (λ spans. AreSpansTo topology.now (length topology.now.arcs) spans.items) }
+    ensures { IfOk result (λ spans.
+        AreSpansTo topology.now (length topology.now.arcs) spans.items) }
 {
     let mut spans = Vec::new(alloc);
     for arc in 0..topology.arc_count() {

@@ -65,7 +65,8 @@ impl Namings {
 
 // Adds the namings of these arcs by the polygon.
 fn push_polygon(namings: &mut Vec<Naming>, arcs: &[u32], polygon: u32) -> Result<(), AllocError>
-    ensures { OnOk result (namings.new.items ≡ namings.old.items ++ map (named_by polygon) arcs.now) }
+    ensures { OnOk result (namings.new.items
+        ≡ namings.old.items ++ map (named_by polygon) arcs.now) }
 {
     for arc in arcs {
         namings.push(Naming { arc: *arc, polygon })?;

@@ -133,7 +133,8 @@ obstacle_hand chains points k rising b s p h obstacle within sp pt flat =
     (λ tp. one_way frame rising p (vertex_at chain (s + 1)) pt tp) flat in
     let on_edge = subst (λ (u : Place). IsOnSegment u y.place p) first
     (subst (λ (u : Place). IsOnSegment (vertex_at chain s) u p) second on) in
-    elim (obstacle_on_edge chains points k p x y h.is_beside.edges h.clear obstacle (edge_numbered c.first c.rest s c.first within) on_edge) [
+    let edge = edge_numbered c.first c.rest s c.first within in
+    elim (obstacle_on_edge chains points k p x y h.is_beside.edges h.clear obstacle edge on_edge) [
       | inl e ↦ not_itself frame rising (vertex_at chain s) p (first ∙ sym e) sp
       | inr e ↦ not_itself frame rising p (vertex_at chain (s + 1)) (e ∙ sym second) pt
     ]

@@ -69,7 +69,7 @@ returns-then-is_closed-clause-told c j low high =
     let b = c.args.self.now in
     let edge = c.loop-edge.edge in
     let chain = c.args.chain.now in
-    let frame = c.args.frame in let rising = c.args.rising in let i = c.args.i in
+    let frame = c.args.direction.frame in let rising = c.args.direction.rising in let i = c.args.i in
     let start = vertex_at chain i in
     let h = c.loop-edge.invariant in
     let now = starts_still c.loop-edge.wedge c.narrow.new.wedge frame rising start h.origin c.narrow.ensures.origin in

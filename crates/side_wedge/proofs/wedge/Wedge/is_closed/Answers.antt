@@ -5,5 +5,5 @@ use Rattle.side_wedge.proofs.wedge.Wedge.is_closed.Goals as goal
 pub returns : goal.returns
 returns c t v past lets =
     let w = c.args.self.now in
-    c.leaves_none.ensures t w.frame w.rising (past_by w.frame w.rising w.origin w.left w.left_past)
-    (past_by w.frame w.rising w.origin w.right w.right_past) v past lets.left lets.right
+    c.leaves_none.ensures t w.direction.frame w.direction.rising (past_by w.direction.frame w.direction.rising w.origin w.left w.left_past)
+    (past_by w.direction.frame w.direction.rising w.origin w.right w.right_past) v past lets.left lets.right
