@@ -72,6 +72,16 @@ topology geo j cs refs arcs is same told found =
       within = within;
     }
 
+same-map : (m n : Map) → m.arcs ≡ n.arcs → m.points ≡ n.points → m.polygons ≡ n.polygons → m.coded ≡ n.coded → m ≡ n
+same-map m n arcs points polygons coded =
+    λ i. record { arcs = arcs i; points = points i; polygons = polygons i; coded = coded i }
+
+pub map-within : (geo : Geo) (refs : List (List ℤ)) (arcs : List (List Place)) (m : Map) → IsTopology geo refs arcs → m.arcs ≡ arcs
+    → m.points ≡ geo.points → m.polygons ≡ polygons_of geo.polygons refs → m.coded ≡ false → IsMap m
+map-within geo refs arcs m made arcs_is points polygons coded =
+    let n : Map = record { arcs = arcs; points = geo.points; polygons = polygons_of geo.polygons refs; coded = false } in
+    subst IsMap (sym (same-map m n arcs_is points polygons coded)) made.within
+
 pub map-is : (geo : Geo) (refs rings : List (List ℤ)) (arcs : List (List Place)) (m : Map) → IsTopology geo refs arcs → m.arcs ≡ arcs
     → m.points ≡ geo.points → m.polygons ≡ polygons_of geo.polygons refs → m.coded ≡ false → rings ≡ refs → IsBuilt geo m rings
 map-is geo refs rings arcs m made arcs_is points polygons coded rings_is = record {

@@ -1,4 +1,4 @@
-use Rattle.std.proofs.Common.{◌≡◌, ◌∙◌, ◌≤◌, ◌^◌, All, List, ℤ, Bool, ap, ap₂, length, map, refl, subst, sum_by, sym, rules}
+use Rattle.std.proofs.Common.{◌≡◌, ◌∙◌, ◌≤◌, ◌^◌, All, List, ℤ, Bool, false, ap, ap₂, length, map, refl, subst, sum_by, sym, rules}
 use Rattle.std.specs.Global.{Vec}
 use Rattle.grid_exact.specs.Geometry.{Place}
 use Rattle.arc_map.specs.Map.{IsMap, Map}
@@ -10,7 +10,7 @@ use Rattle.topo_build.specs.Junctions.{turns_of}
 use Rattle.topo_build.specs.Passages.{AreTold, IsMarked}
 use Rattle.topo_build.specs.References.{IsPutTogether, polygons_of}
 use Rattle.std.specs.List.{AllZip}
-use Rattle.topo_build.proofs.Whole.{IsTopology, few-positions, map-is, some-positions, topology}
+use Rattle.topo_build.proofs.Whole.{IsTopology, few-positions, map-is, map-within, some-positions, topology}
 use Rattle.topo_build.proofs.topology.build.Goals as goal
 
 pub arcs_of-requires-clause-some : goal.arcs_of-requires-clause-some
@@ -53,9 +53,12 @@ returns c =
     (ap (map (λ refs. refs.items)) c.as_slice-3.ensures.value) in
     let value = c.new.ensures.value in
     let arcs_is : c.new.result.arcs ≡ arcs = ap (λ (m : Map). m.arcs) value in
+    let points_are : c.new.result.points ≡ geo.points = ap (λ (m : Map). m.points) value ∙ read ∙ c.points.ensures.value in
+    let polygons_are : c.new.result.polygons ≡ polygons_of geo.polygons refs = ap (λ (m : Map). m.polygons) value ∙ polygons in
+    let coded_is : c.new.result.coded ≡ false = ap (λ (m : Map). m.coded) value in
     record {
-      built = map-is geo refs c.new-2.result arcs c.new.result made arcs_is (ap (λ (m : Map). m.points) value ∙ read
-          ∙ c.points.ensures.value) (ap (λ (m : Map). m.polygons) value ∙ polygons) (ap (λ (m : Map). m.coded) value) c.new-2.ensures;
+      built = map-is geo refs c.new-2.result arcs c.new.result made arcs_is points_are polygons_are coded_is c.new-2.ensures;
+      is_map = map-within geo refs arcs c.new.result made arcs_is points_are polygons_are coded_is;
       together = subst (λ xs. AllZip (IsPutTogether xs) (rings_of geo) c.new-2.result) (sym arcs_is)
           (subst (AllZip (IsPutTogether arcs) (rings_of geo)) (sym c.new-2.ensures) made.together);
       edges = subst (HasEachEdgeOnce (geo_turns geo)) (sym arcs_is) made.edges;
