@@ -18,4 +18,6 @@ pub mod Passes
 pub mod Stages
 pub mod Building
 pub mod Edges
+pub mod Inner
+pub mod Arranging
 pub mod Whole

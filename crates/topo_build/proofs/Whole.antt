@@ -1,20 +1,24 @@
 -- What is built of what was read.
-use Rattle.std.proofs.Common.{◌≡◌, ◌∙◌, ◌+◌, ◌*◌, ◌^◌, ◌<◌, ◌≤◌, ℕ, ℤ, Bool, false, List, [], ◌∷◌, All, get_or, length, map, sum_by, ap}
+use Rattle.std.proofs.Common.{◌≡◌, ◌↔◌, ◌∙◌, ◌+◌, ◌*◌, ◌^◌, ◌<◌, ◌≤◌, ℕ, ℤ, Bool, false, List, [], ◌∷◌, All, get_or, length, map, sum_by}
+use Rattle.std.proofs.Common.{ap}
 use Rattle.std.proofs.Common.{refl, subst, sym, arith}
 use Rattle.std.specs.List.{AllZip}
 use Rattle.std.proofs.lemmas.List.{get_or-map, length-map}
 use Rattle.std.proofs.lemmas.List.Elements.{All-get_or}
 use Rattle.std.proofs.lemmas.List.Sums.{sum_by-cons}
 use Rattle.grid_exact.specs.Geometry.{Place}
+use Rattle.arc_map.specs.Arcs.{edges_of_arcs}
+use Rattle.arc_map.specs.Edges.{EdgesAreArranged}
 use Rattle.arc_map.specs.Map.{IsMap, Map}
 use Rattle.geo_reader.specs.Geo.{Geo, IsGeo}
 use Rattle.topo_build.specs.Built.{AreRingsBuilt, IsBuilt, IsPieceTaken, IsRingTaken, geo_turns, rings_of}
-use Rattle.topo_build.specs.Clean.{HasEachEdgeOnce}
+use Rattle.topo_build.specs.Clean.{AreClean, HasEachEdgeOnce}
 use Rattle.topo_build.specs.Found.{IsFound, IsRingFound}
 use Rattle.topo_build.specs.Junctions.{IsJunction, turns_of}
 use Rattle.topo_build.specs.Passages.{AreTold, IsMarked}
 use Rattle.topo_build.specs.References.{IsPutTogether, polygons_of}
 use Rattle.topo_build.specs.declared.junctions.Junctions.{Junctions}
+use Rattle.topo_build.proofs.Arranging.{arranged-where-clean}
 use Rattle.topo_build.proofs.Cycles.{IsCyclic}
 use Rattle.topo_build.proofs.Edges.{edges-once}
 use Rattle.topo_build.proofs.Joined.{rings-together}
@@ -53,6 +57,7 @@ pub record IsTopology (geo : Geo) (refs : List (List ℤ)) (arcs : List (List Pl
   pub built : AreRingsBuilt IsPieceTaken IsRingTaken (IsJunction (geo_turns geo)) (rings_of geo) [] refs arcs
   pub together : AllZip (IsPutTogether arcs) (rings_of geo) refs
   pub edges : HasEachEdgeOnce (geo_turns geo) arcs
+  pub arranged : EdgesAreArranged [] (edges_of_arcs 0 arcs) geo.points ↔ AreClean (geo_turns geo) geo.points
   pub within : IsMap (record { arcs = arcs; points = geo.points; polygons = polygons_of geo.polygons refs; coded = false })
 
 pub topology : (geo : Geo) (j : Junctions) (cs : List (List Place)) (refs : List (List ℤ)) (arcs : List (List Place)) → IsGeo geo
@@ -65,10 +70,12 @@ topology geo j cs refs arcs is same told found =
     let made = rings-built (IsMarked j) (rings_of geo) refs arcs (marked-junctions (geo_turns geo) j told_geo) found_geo in
     let within = map-built (IsMarked j) geo refs arcs false is found_geo in
     let together = rings-together (IsJunction (geo_turns geo)) (rings_of geo) refs arcs made.built in
+    let edges = edges-once (rings_of geo) arcs refs within.arcs made.sound together in
     record {
       built = made.built;
       together = together;
-      edges = edges-once (rings_of geo) arcs refs within.arcs made.sound together;
+      edges = edges;
+      arranged = arranged-where-clean (rings_of geo) arcs geo.points within.arcs made.sound edges;
       within = within;
     }
 

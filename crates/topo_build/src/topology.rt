@@ -1,9 +1,10 @@
 //! The topology of the rings of a map.
-ghost use Rattle.std.specs.Prelude.{◌≤◌, ◌^◌, [], All, IfOk, length, map, sum_by};
+ghost use Rattle.std.specs.Prelude.{◌≤◌, ◌^◌, ◌↔◌, [], All, IfOk, length, map, sum_by};
 ghost use Rattle.std.specs.List.{AllZip};
+ghost use Rattle.arc_map.specs.Arcs.{IsMapArrangedBeside};
 ghost use Rattle.arc_map.specs.Map.{IsMap};
 ghost use Rattle.topo_build.specs.Built.{AreRingsBuilt, IsBuilt, geo_turns, rings_of};
-ghost use Rattle.topo_build.specs.Clean.{HasEachEdgeOnce};
+ghost use Rattle.topo_build.specs.Clean.{AreClean, HasEachEdgeOnce};
 ghost use Rattle.topo_build.specs.Found.{IsFound, IsRingFound};
 ghost use Rattle.topo_build.specs.Passages.{IsMarked};
 ghost use Rattle.topo_build.specs.References.{IsPutTogether};
@@ -46,6 +47,9 @@ pub fn build(alloc: Global, geo: &GeoMap) -> Result<Built, NoMemory>
         AllZip (IsPutTogether built.map.arcs) (rings_of geo.now) built.rings) }
     // Two neighbours in a ring are the ends of one edge of one arc.
     ensures edges { IfOk result (λ built. HasEachEdgeOnce (geo_turns geo.now) built.map.arcs) }
+    // The map is arranged exactly where the rings are clean.
+    ensures arranged { IfOk result (λ built. IsMapArrangedBeside [] built.map
+        ↔ AreClean (geo_turns geo.now) geo.now.points) }
 {
     let rings = cyclic_rings(alloc, geo)?;
     let junctions = Junctions::build(alloc, rings.as_slice())?;

@@ -1,9 +1,11 @@
-use Rattle.std.proofs.Common.{◌≡◌, ◌∙◌, ◌≤◌, ◌^◌, All, List, ℤ, Bool, false, ap, ap₂, length, map, refl, subst, sum_by, sym, rules}
+use Rattle.std.proofs.Common.{◌≡◌, ◌↔◌, [], ◌∙◌, ◌≤◌, ◌^◌, All, List, ℤ, Bool, false, ap, ap₂, length, map, refl, subst, sum_by, sym, rules}
 use Rattle.std.specs.Global.{Vec}
 use Rattle.grid_exact.specs.Geometry.{Place}
+use Rattle.arc_map.specs.Arcs.{edges_of_arcs}
+use Rattle.arc_map.specs.Edges.{EdgesAreArranged}
 use Rattle.arc_map.specs.Map.{IsMap, Map}
 use Rattle.topo_build.specs.Built.{AreRingsBuilt, rings_of}
-use Rattle.topo_build.specs.Clean.{HasEachEdgeOnce}
+use Rattle.topo_build.specs.Clean.{AreClean, HasEachEdgeOnce}
 use Rattle.topo_build.specs.Built.{geo_turns}
 use Rattle.topo_build.specs.Found.{IsFound, IsRingFound}
 use Rattle.topo_build.specs.Junctions.{turns_of}
@@ -62,4 +64,8 @@ returns c =
       together = subst (λ xs. AllZip (IsPutTogether xs) (rings_of geo) c.new-2.result) (sym arcs_is)
           (subst (AllZip (IsPutTogether arcs) (rings_of geo)) (sym c.new-2.ensures) made.together);
       edges = subst (HasEachEdgeOnce (geo_turns geo)) (sym arcs_is) made.edges;
+      arranged = subst (λ xs. EdgesAreArranged [] (edges_of_arcs 0 xs) c.new.result.points
+          ↔ AreClean (geo_turns geo) geo.points) (sym arcs_is)
+          (subst (λ ps. EdgesAreArranged [] (edges_of_arcs 0 arcs) ps ↔ AreClean (geo_turns geo) geo.points) (sym points_are)
+          made.arranged);
     }
