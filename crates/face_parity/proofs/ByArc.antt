@@ -221,13 +221,13 @@ module _ (m : Map) (floors : Floors) (runs : List Run) (limits : Limits) (width 
 
 -- ---- one run after another
 
--- where the floor of a run is above y, no polygon with a floor that is not above it is turned
-pub not-floored : (m : Map) (p : Place) (y k : ℕ) (r : Run) (odd : Bool) → y < r.floor → IsFloored m y k r
-    → odd ≡ differ odd (turns m p k r)
-not-floored m p y k r odd above floored = elim (cases_Bool (pass_oddly (λ arc. arc == r.arc) (get_or m.polygons k []))) [
-  | inl named ↦ let low = floored (named-held r.arc (get_or m.polygons k []) named) in absurd (omega (arith, low, above))
-  | inr unnamed ↦ sym (ap (differ odd) (and_right (is_run_crossed m p r) (pass_oddly (λ arc. arc == r.arc) (get_or m.polygons k []))
-      unnamed) ∙ differ_false odd)
+-- where the floor of a run is above y, nothing is turned
+pub not-floored : (m : Map) (p : Place) (y : ℕ) (refs : List ℕ) (r : Run) (odd : Bool) → y < r.floor → IsFloored refs y r
+    → odd ≡ differ odd (turns m p refs r)
+not-floored m p y refs r odd above floored = elim (cases_Bool (pass_oddly (λ arc. arc == r.arc) refs)) [
+  | inl named ↦ let low = floored (named-held r.arc refs named) in absurd (omega (arith, low, above))
+  | inr unnamed ↦ sym (ap (differ odd) (and_right (is_run_crossed m p r) (pass_oddly (λ arc. arc == r.arc) refs) unnamed)
+      ∙ differ_false odd)
 ]
 
 -- the arc of a run is an arc of the map
@@ -238,12 +238,12 @@ arc-in m arc at inside = elim (cases_lt arc (length m.arcs)) [
 ]
 
 -- the parity so far and that of what is left make up the whole
-pub turned-next : {X : Type 0} (number : X → ℕ) (m : Map) (p : Place) (k : ℕ) (runs : List Run) (odd new whole : Bool) (xs : List X) (i : ℕ)
-    (d : X) (r : Run) → i < length xs → r ≡ run_at runs (number (get_or xs i d)) → new ≡ differ odd (turns m p k r)
-    → differ odd (pass_oddly (λ c. turns m p k (run_at runs (number c))) (drop i xs)) ≡ whole
-    → differ new (pass_oddly (λ c. turns m p k (run_at runs (number c))) (drop (i + 1) xs)) ≡ whole
-turned-next {X = X} number m p k runs odd new whole xs i d r within is turned before =
-    let test : X → Bool = λ c. turns m p k (run_at runs (number c)) in
-    ap (λ b. differ b (pass_oddly test (drop (i + 1) xs))) (turned ∙ ap (λ s. differ odd (turns m p k s)) is)
+pub turned-next : {X : Type 0} (number : X → ℕ) (m : Map) (p : Place) (refs : List ℕ) (runs : List Run) (odd new whole : Bool) (xs : List X)
+    (i : ℕ) (d : X) (r : Run) → i < length xs → r ≡ run_at runs (number (get_or xs i d)) → new ≡ differ odd (turns m p refs r)
+    → differ odd (pass_oddly (λ c. turns m p refs (run_at runs (number c))) (drop i xs)) ≡ whole
+    → differ new (pass_oddly (λ c. turns m p refs (run_at runs (number c))) (drop (i + 1) xs)) ≡ whole
+turned-next {X = X} number m p refs runs odd new whole xs i d r within is turned before =
+    let test : X → Bool = λ c. turns m p refs (run_at runs (number c)) in
+    ap (λ b. differ b (pass_oddly test (drop (i + 1) xs))) (turned ∙ ap (λ s. differ odd (turns m p refs s)) is)
     ∙ pass-at test odd xs i d within
     ∙ before

@@ -6,6 +6,7 @@ pub mod Same
 pub mod ByArc
 pub mod Turning
 pub mod Parts
+pub mod Telling
 pub mod Found
 pub mod Apart
 pub mod Seen

@@ -1,7 +1,7 @@
--- From below a polygon whose ends are paired an even number of its edges are crossed.
-use Rattle.std.proofs.Common.{◌≡◌, ◌∙◌, ℕ, ◌+◌, ◌^◌, ◌<◌, ◌≤◌, Bool, true, false, List, [], ◌∷◌, ◌++◌, All, Contains, append_assoc, length}
+-- From below a part of a polygon whose ends are paired an even number of its edges are crossed.
+use Rattle.std.proofs.Common.{◌≡◌, ◌∙◌, ℕ, ◌+◌, ◌^◌, ◌<◌, ◌≤◌, Bool, true, false, List, [], ◌∷◌, ◌++◌, All, append_assoc, length}
 use Rattle.std.proofs.Common.{get_or, drop, take, min, refl, sym, ap, subst, arith, inl, inr}
-use Rattle.std.specs.Prelude.{ℤ, slice_get, slice_index, Some, nat_lt}
+use Rattle.std.specs.Prelude.{ℤ, slice_get, Some, nat_lt}
 use Rattle.std.specs.List.Sorted.{IsPermutation}
 use Rattle.std.proofs.lemmas.Bool.{cases_lt}
 use Rattle.std.proofs.lemmas.List.{drop_more, get_or_append_left, get_or_push, length_push}
@@ -16,7 +16,7 @@ use Rattle.arc_map.specs.Arranged.{arc_at}
 use Rattle.sweep_index.specs.Offsets.{offset_of}
 use Rattle.sweep_index.proofs.Reading.{some_position}
 use Rattle.face_parity.specs.Bounds.{IsOffsetOf, do_part}
-use Rattle.face_parity.specs.Floors.{AreSpansTo, IsFloorOf, IsFloorOver, IsSpanOf, ends_along, no_span, span_at}
+use Rattle.face_parity.specs.Floors.{AreSpansTo, IsFloorOver, IsSpanOf, ends_along, no_span, span_at}
 use Rattle.face_parity.specs.Parities.{pass_oddly}
 use Rattle.face_parity.specs.declared.floors.Span.{Span}
 use Rattle.grid_exact.proofs.Walks.{differ_assoc}
@@ -129,54 +129,12 @@ spans-more m arc spans s ps is span are = record {
   ];
 }
 
--- ---- floors, polygon after polygon
+-- ---- parts
 
--- these are floors of the first polygons of the map, so many, and of its arcs below them
-pub record AreFloorsTo (m : Map) (count : ℕ) (polygons arcs : List ℕ) : Type 0 where
-  pub of_polygons : length polygons ≡ count
-  pub of_arcs : length arcs ≡ length m.arcs
-  pub outside : (k : ℕ) → k < count → IsFloorOf m k (slice_index polygons k)
-  pub under : (k arc : ℕ) → k < count → Contains (get_or m.polygons k []) arc → slice_index arcs arc ≤ slice_index polygons k
-
-pub floors-more : (m : Map) (count floor : ℕ) (polygons old new refs : List ℕ) → slice_get m.polygons count ≡ Some refs
-    → IsFloorOf m count floor → length new ≡ length old → ((arc : ℕ) → slice_index new arc ≤ slice_index old arc)
-    → ((arc : ℕ) → Contains refs arc → slice_index new arc ≤ floor) → AreFloorsTo m count polygons old
-    → AreFloorsTo m (count + 1) (polygons ++ floor ∷ []) new
-floors-more m count floor polygons old new refs is below same lower under are =
-    let named : get_or m.polygons count [] ≡ refs = get_or_from_slice_get m.polygons count refs [] is in
-    let earlier : (k : ℕ) → k < count → slice_index polygons k ≡ slice_index (polygons ++ floor ∷ []) k = λ k before.
-    sym (get_or_append_left polygons (floor ∷ []) 0 k (let long = are.of_polygons in omega (arith, before, long))) in
-    let last : (k : ℕ) → k ≡ count → floor ≡ slice_index (polygons ++ floor ∷ []) k = λ k here.
-    sym (get_or_push polygons floor 0 k (are.of_polygons ∙ sym here)) in
-    record {
-      of_polygons = length_push polygons floor ∙ ap (λ n. n + 1) are.of_polygons;
-      of_arcs = same ∙ are.of_arcs;
-      outside = λ k less. elim (cases_lt k count) [
-        | inl before ↦ subst (IsFloorOf m k) (earlier k before) (are.outside k before)
-        | inr late ↦
-            let here : k ≡ count = omega (arith, late, less) in
-            subst (IsFloorOf m k) (last k here) (subst (λ n. IsFloorOf m n floor) (sym here) below)
-      ];
-      under = λ k arc less held. elim (cases_lt k count) [
-        | inl before ↦
-            let step = lower arc in
-            let old = are.under k arc before held in
-            let e = earlier k before in
-            omega (arith, step, old, e)
-        | inr late ↦
-            let here : k ≡ count = omega (arith, late, less) in
-            let mine : Contains refs arc = subst (λ xs. Contains xs arc) (ap (λ n. get_or m.polygons n []) here ∙ named) held in
-            let step = under arc mine in
-            let e = last k here in
-            omega (arith, step, e)
-      ];
-    }
-
--- a floor over the arcs of a polygon is a floor of the polygon
-pub floor-of : (m : Map) (spans : List Span) (k floor : ℕ) (refs : List ℕ) → AreSpansTo m (length m.arcs) spans → All IsArc m.arcs
-    → slice_get m.polygons k ≡ Some refs → All (λ arc. arc < length m.arcs) refs → IsFloorOver spans refs floor → IsFloorOf m k floor
-floor-of m spans k floor refs are arcs is within over p on_grid less =
-    let named : get_or m.polygons k [] ≡ refs = get_or_from_slice_get m.polygons k refs [] is in
-    ap (is_inside_of p m.arcs) named
-    ∙ below-floor m spans refs floor are (λ i d inside. some_position (arc_at m (get_or refs i d))
-    (All-get_or IsArc m.arcs (get_or refs i d) [] (within i d inside) arcs)) within over p on_grid less
+-- from below the floor of a part an even number of its edges are crossed
+pub part-even : (m : Map) (spans : List Span) (floor : ℕ) (part : List ℕ) → AreSpansTo m (length m.arcs) spans → All IsArc m.arcs
+    → All (λ arc. arc < length m.arcs) part → IsFloorOver spans part floor → (p : Place) → IsOnGrid p → offset_of p.y < floor
+    → is_inside_of p m.arcs part ≡ false
+part-even m spans floor part are arcs within over p on_grid less =
+    below-floor m spans part floor are (λ i d inside. some_position (arc_at m (get_or part i d))
+    (All-get_or IsArc m.arcs (get_or part i d) [] (within i d inside) arcs)) within over p on_grid less

@@ -1,7 +1,7 @@
 -- Parities of counts over lists.
 use Rattle.std.proofs.Common.{◌≡◌, ◌∙◌, ℕ, suc, ◌+◌, ◌<◌, Bool, true, false, cond, List, [], ◌∷◌, ◌++◌, All, length, get_or, drop, map}
 use Rattle.std.proofs.Common.{refl, sym, ap, arith, add-one, drop-cons}
-use Rattle.std.specs.Prelude.{◌&&◌, count_by}
+use Rattle.std.specs.Prelude.{◌&&◌, count_by, filter}
 use Rattle.std.specs.List.Sorted.{IsPermutation}
 use Rattle.std.proofs.lemmas.List.Elements.{All-head, All-tail}
 use Rattle.std.proofs.lemmas.List.Sorted.{sum_by-IsPermutation}
@@ -29,6 +29,16 @@ pass-agree p q (x ∷ xs) all = ap (λ b. differ b (pass_oddly p xs)) (All-head 
 pub pass-map : {X Y : Type 0} (test : Y → Bool) (f : X → Y) (xs : List X) → pass_oddly test (map f xs) ≡ pass_oddly (λ x. test (f x)) xs
 pass-map test f [] = refl
 pass-map test f (x ∷ xs) = ap (differ (test (f x))) (pass-map test f xs)
+
+-- of what passes one test what passes another
+pub pass-filter : {X : Type 0} (p test : X → Bool) (xs : List X) → pass_oddly test (filter p xs) ≡ pass_oddly (λ x. p x && test x) xs
+pass-filter p test [] = refl
+pass-filter p test (x ∷ xs) =
+    elim (p x) as (λ b. pass_oddly test (cond b (x ∷ filter p xs) (filter p xs))
+    ≡ differ (b && test x) (pass_oddly (λ y. p y && test y) xs)) [
+      | true ↦ ap (differ (test x)) (pass-filter p test xs)
+      | false ↦ pass-filter p test xs
+    ]
 
 -- a test that fails at once leaves nothing
 pub pass-and : {X : Type 0} (b : Bool) (test : X → Bool) (xs : List X) → pass_oddly (λ x. b && test x) xs ≡ (b && pass_oddly test xs)

@@ -1,8 +1,7 @@
--- Below the floor of a polygon no point is in it. Below the floor of an arc no point is in a polygon that names the arc.
-use Rattle.std.specs.Prelude.{◌≡◌, ◌<◌, ◌≤◌, ℕ, false, List, [], ◌∷◌, All, Contains, length, get_or, slice_index}
+-- Below the floor of a part of a polygon an even number of its edges are crossed from any point.
+use Rattle.std.specs.Prelude.{◌≡◌, ◌<◌, ◌≤◌, ℕ, false, List, [], ◌∷◌, All, length, get_or, slice_index}
 use Rattle.grid_exact.specs.Geometry.{Place, IsOnGrid}
 use Rattle.arc_map.specs.Map.{Map}
-use Rattle.arc_map.specs.Arcs.{is_inside}
 use Rattle.arc_map.specs.Arranged.{arc_at}
 use Rattle.sweep_index.specs.Offsets.{offset_of}
 use Rattle.face_parity.specs.Bounds.{IsEndsOf, do_part}
@@ -31,23 +30,15 @@ abbrev pub ends_along : List Span → List ℕ → List ℕ
 ends_along spans [] = []
 ends_along spans (arc ∷ refs) = (span_at spans arc).ends.first ∷ (span_at spans arc).ends.last ∷ ends_along spans refs
 
--- a floor of a polygon that names these arcs: none of them is below it, and from below it an even number of them are parted
+-- a floor of a part that names these arcs: none of them is below it, and from below it an even number of them are parted
 pub record IsFloorOver (spans : List Span) (refs : List ℕ) (floor : ℕ) : Type 0 where
   pub low : All (λ arc. floor ≤ (span_at spans arc).low) refs
   pub even : (x y : ℕ) → y < floor → pass_oddly (λ arc. do_part (span_at spans arc).ends x) refs ≡ false
-
--- no point below the floor is in the polygon
-abbrev pub IsFloorOf : Map → ℕ → ℕ → Type 0
-IsFloorOf m polygon floor = (p : Place) → IsOnGrid p → offset_of p.y < floor → is_inside p m polygon ≡ false
 
 -- the floor of an arc is at most this
 abbrev pub IsUnder : Floors → ℕ → ℕ → Type 0
 IsUnder floors arc floor = floor ≤ slice_index floors.arcs.items arc
 
--- these are floors of the polygons and arcs of the map
-pub record AreFloorsOf (m : Map) (floors : Floors) : Type 0 where
-  pub polygons : length floors.polygons.items ≡ length m.polygons
-  pub arcs : length floors.arcs.items ≡ length m.arcs
-  pub outside : (k : ℕ) → k < length m.polygons → IsFloorOf m k (slice_index floors.polygons.items k)
-  pub under : (k arc : ℕ) → k < length m.polygons → Contains (get_or m.polygons k []) arc
-      → slice_index floors.arcs.items arc ≤ slice_index floors.polygons.items k
+-- these are floors of the arcs of the map
+abbrev pub AreFloorsOf : Map → Floors → Type 0
+AreFloorsOf m floors = length floors.arcs.items ≡ length m.arcs

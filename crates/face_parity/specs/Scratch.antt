@@ -3,6 +3,7 @@
 use Rattle.std.specs.Prelude.{◌≡◌, ◌≤◌, ◌+◌, ◌*◌, ℕ, List, length, vec_capacity}
 use Rattle.arc_map.specs.Map.{Map}
 use Rattle.face_parity.specs.Cells.{AreCellsOf}
+use Rattle.face_parity.specs.Naming.{AreUnder}
 use Rattle.face_parity.specs.Namings.{AreNamingsOf}
 use Rattle.face_parity.specs.Tally.{IsTally}
 use Rattle.face_parity.specs.declared.faces.FaceScratch.{FaceScratch}
@@ -11,6 +12,7 @@ use Rattle.face_parity.specs.declared.faces.FaceScratch.{FaceScratch}
 pub record IsScratchOf (m : Map) (scratch : FaceScratch) : Type 0 where
   pub cells : AreCellsOf m scratch.cells
   pub namings : AreNamingsOf m scratch.namings
+  pub under : AreUnder scratch.cells.floors.arcs.items scratch.namings.namings.items
   pub tally : IsTally scratch.tally
   pub polygons : length scratch.tally.odd.items ≡ length m.polygons
   pub room : 64 + 8 * length m.polygons ≤ vec_capacity scratch.text

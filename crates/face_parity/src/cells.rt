@@ -78,12 +78,14 @@ pub(crate) struct Cells {
 
 impl Cells {
     ghost use Rattle.face_parity.specs.Cells.{AreCellsOf};
+    ghost use Rattle.face_parity.specs.Floors.{AreFloorsOf};
 
-    // The runs of the map in the cells that they reach.
-    pub fn build(alloc: Global, map: &ArcMap) -> Result<Cells, NoMemory>
-        ensures { IfOk result (AreCellsOf map.now) }
+    // The runs of the map, with these floors, in the cells that they reach.
+    pub fn build(alloc: Global, map: &ArcMap, floors: Floors) -> Result<Cells, NoMemory>
+        requires { AreFloorsOf map.now floors }
+        ensures cells { IfOk result (AreCellsOf map.now) }
+        ensures floors { IfOk result (λ cells. cells.floors ≡ floors) }
     {
-        let floors = Floors::build(alloc, map)?;
         let runs = runs_of(alloc, map, &floors)?;
         let limits = Limits::of(Sizes::of(&runs, Limits::none()));
         let sizes = Sizes::of(&runs, limits);

@@ -11,7 +11,8 @@ ghost use Rattle.face_parity.specs.Bounds.{IsOffsetOf};
 ghost use Rattle.face_parity.specs.Cells.{AreCellsOf};
 ghost use Rattle.face_parity.specs.Celled.{cell_at, in_cell, run_at};
 ghost use Rattle.face_parity.specs.Parities.{pass_oddly};
-ghost use Rattle.face_parity.specs.Faces.{IsFloored, is_face, turns};
+ghost use Rattle.face_parity.specs.Faces.{IsFloored, turns};
+ghost use Rattle.face_parity.specs.Naming.{AreUnder, refs_over};
 ghost use Rattle.face_parity.specs.Lines.{line_of, numbers_text, still};
 ghost use Rattle.face_parity.specs.Namings.{AreNamingsOf};
 ghost use Rattle.face_parity.specs.Tally.{IsTally, is_odd_at};
@@ -20,7 +21,7 @@ ghost use Rattle.face_parity.specs.Scratch.{IsScratchOf, line_in};
 
 use crate::bounds::Offset;
 use crate::cells::Cells;
-use crate::floors::Floors;
+use crate::floors::floored;
 use crate::namings::Namings;
 use crate::runs::Run;
 use crate::tally::Tally;
@@ -51,8 +52,9 @@ impl FaceScratch {
         ensures { IfOk result (IsScratchOf topology.now) }
     {
         let polygons = topology.polygon_count() as usize;
-        let cells = Cells::build(alloc, topology)?;
-        let namings = Namings::build(alloc, topology)?;
+        let (unsorted, floors) = floored(alloc, topology)?;
+        let namings = Namings::build(alloc, unsorted, topology.arc_count())?;
+        let cells = Cells::build(alloc, topology, floors)?;
         let tally = Tally::new(alloc, polygons)?;
         let text = Vec::with_capacity(alloc, LINE + NUMBER * polygons)?;
         Ok(FaceScratch {
@@ -80,7 +82,7 @@ impl FaceScratch {
         self.tally.sort();
         self.text.clear();
         write_point(&mut self.text, k, p);
-        write_faces(&mut self.text, &self.tally, &self.cells.floors, at.y);
+        write_faces(&mut self.text, &self.tally);
         put(&mut self.text, b"\n");
     }
 
@@ -92,8 +94,7 @@ impl FaceScratch {
     }
 }
 
-// Turns each polygon as often as edges of the arcs that it names are crossed from p, by parity, if
-// its floor is not above p.
+// Turns each polygon as often as edges of the arcs that it names are crossed from p, by parity.
 fn turn_crossed(
     tally: &mut Tally,
     cells: &Cells,
@@ -107,11 +108,11 @@ fn turn_crossed(
     requires even { (k : ℕ) → is_odd_at tally.old k ≡ false }
     requires cells { AreCellsOf topology.now cells.now }
     requires namings { AreNamingsOf topology.now namings.now }
+    requires under { AreUnder cells.now.floors.arcs.items namings.now.namings.items }
     requires at { IsOffsetOf p at }
     ensures tally { IsTally tally.new }
     ensures polygons { length tally.new.odd.items ≡ length tally.old.odd.items }
     ensures odd { (k : ℕ) → k < length topology.now.polygons
-        → slice_index cells.now.floors.polygons.items k ≤ at.y
         → is_odd_at tally.new k ≡ is_inside p topology.now k }
 {
     turn_celled(tally, cells, namings, topology, p, at);
@@ -131,14 +132,15 @@ fn turn_celled(
     requires polygons { length tally.old.odd.items ≡ length topology.now.polygons }
     requires cells { AreCellsOf topology.now cells.now }
     requires namings { AreNamingsOf topology.now namings.now }
+    requires under { AreUnder cells.now.floors.arcs.items namings.now.namings.items }
     requires at { IsOffsetOf p at }
     ensures tally { IsTally tally.new }
     ensures polygons { length tally.new.odd.items ≡ length tally.old.odd.items }
-    ensures odd { (k : ℕ) → k < length topology.now.polygons
-        → slice_index cells.now.floors.polygons.items k ≤ at.y
-        → is_odd_at tally.new k ≡ differ (is_odd_at tally.old k)
-        (pass_oddly (λ c. turns topology.now p k (run_at cells.now.runs.items c.run))
-        (in_cell (cell_at cells.now.width cells.now.height at) cells.now.celled.items)) }
+    ensures odd { (k : ℕ) → is_odd_at tally.new k
+        ≡ differ (is_odd_at tally.old k) (pass_oddly (λ c.
+        turns topology.now p (refs_over namings.now.namings.items at.y k)
+        (run_at cells.now.runs.items c.run)) (in_cell (cell_at cells.now.width cells.now.height at)
+        cells.now.celled.items)) }
 {
     let found = cells.at(at);
     for celled in found {
@@ -159,14 +161,14 @@ fn turn_wide(
     requires polygons { length tally.old.odd.items ≡ length topology.now.polygons }
     requires cells { AreCellsOf topology.now cells.now }
     requires namings { AreNamingsOf topology.now namings.now }
+    requires under { AreUnder cells.now.floors.arcs.items namings.now.namings.items }
     requires at { IsOffsetOf p at }
     ensures tally { IsTally tally.new }
     ensures polygons { length tally.new.odd.items ≡ length tally.old.odd.items }
-    ensures odd { (k : ℕ) → k < length topology.now.polygons
-        → slice_index cells.now.floors.polygons.items k ≤ at.y
-        → is_odd_at tally.new k ≡ differ (is_odd_at tally.old k)
-        (pass_oddly (λ n. turns topology.now p k (run_at cells.now.runs.items n))
-        cells.now.wide.items) }
+    ensures odd { (k : ℕ) → is_odd_at tally.new k
+        ≡ differ (is_odd_at tally.old k) (pass_oddly (λ n.
+        turns topology.now p (refs_over namings.now.namings.items at.y k)
+        (run_at cells.now.runs.items n)) cells.now.wide.items) }
 {
     let wide = cells.wide();
     for number in wide {
@@ -174,8 +176,8 @@ fn turn_wide(
     }
 }
 
-// Turns each polygon that names the arc of the run, as often as it does, if an odd number of edges
-// of the run are crossed from p and its floor is not above p.
+// Turns each polygon that names the arc of the run, as often as it does in parts whose floor is not
+// above p, if an odd number of edges of the run are crossed from p.
 fn turn_run(tally: &mut Tally, namings: &Namings, topology: &ArcMap, run: Run, p: Point, at: Offset)
     requires tally { IsTally tally.old }
     requires polygons { length tally.old.odd.items ≡ length topology.now.polygons }
@@ -184,8 +186,9 @@ fn turn_run(tally: &mut Tally, namings: &Namings, topology: &ArcMap, run: Run, p
     requires at { IsOffsetOf p at }
     ensures tally { IsTally tally.new }
     ensures polygons { length tally.new.odd.items ≡ length tally.old.odd.items }
-    ensures odd { (k : ℕ) → k < length topology.now.polygons → IsFloored topology.now at.y k run
-        → is_odd_at tally.new k ≡ differ (is_odd_at tally.old k) (turns topology.now p k run) }
+    ensures odd { (k : ℕ) → IsFloored (refs_over namings.now.namings.items at.y k) at.y run
+        → is_odd_at tally.new k ≡ differ (is_odd_at tally.old k)
+        (turns topology.now p (refs_over namings.now.namings.items at.y k) run) }
 {
     if run.floor > at.y {
         return;
@@ -193,7 +196,7 @@ fn turn_run(tally: &mut Tally, namings: &Namings, topology: &ArcMap, run: Run, p
     if !run.is_crossed_oddly(topology, p, at) {
         return;
     }
-    tally.turn_all(namings.of_arc(run.arc));
+    tally.turn_all(namings.of_arc(run.arc), at.y);
 }
 
 // Adds `point K X Y in`.
@@ -215,56 +218,42 @@ fn write_point(text: &mut Vec<u8>, k: u32, p: Point)
     put(text, b" in");
 }
 
-// Adds the numbers of the odd polygons among those that were turned and whose floor is not above y,
-// each after a space, or ` none`.
-fn write_faces(text: &mut Vec<u8>, tally: &Tally, floors: &Floors, y: u32)
+// Adds the numbers of the odd polygons, each after a space, or ` none`.
+fn write_faces(text: &mut Vec<u8>, tally: &Tally)
     requires tally { IsTally tally.now }
-    requires floors { length floors.now.polygons.items ≡ length tally.now.odd.items }
     requires few { length tally.now.odd.items ≤ 2 ^ 20 }
     requires room { vec_len text.old + 6 + 8 * length tally.now.odd.items ≤ vec_capacity text.old }
     ensures value { text.new.items ≡ text.old.items
-        ++ numbers_text (filter (is_face tally.now floors.now y) tally.now.turned.items) }
+        ++ numbers_text (filter (is_odd_at tally.now) tally.now.turned.items) }
     ensures room { vec_len text.new + 1 ≤ vec_capacity text.new }
     ensures capacity { vec_capacity text.old ≤ vec_capacity text.new }
 {
     let turned = tally.turned();
     let mut some = false;
     for k in turned {
-        some = visit(text, tally, floors, y, *k, some);
+        some = visit(text, tally, *k, some);
     }
     if !some {
         put(text, b" none");
     }
 }
 
-// Adds the number of the polygon where it is odd and its floor not above y. Tells whether some
-// number is written now.
-fn visit(text: &mut Vec<u8>, tally: &Tally, floors: &Floors, y: u32, k: u32, some: bool) -> bool
+// Adds the number of the polygon where it is odd. Tells whether some number is written now.
+fn visit(text: &mut Vec<u8>, tally: &Tally, k: u32, some: bool) -> bool
     requires polygon { k < length tally.now.odd.items }
-    requires floors { length floors.now.polygons.items ≡ length tally.now.odd.items }
     requires few { k < 2 ^ 20 }
     requires room { vec_len text.old + 8 ≤ vec_capacity text.old }
-    ensures value { (ns : List ℕ) → text.new.items
-        ++ still result (filter (is_face tally.now floors.now y) ns) ≡ text.old.items
-        ++ still some (filter (is_face tally.now floors.now y) (k ∷ ns)) }
+    ensures value { (ns : List ℕ) → text.new.items ++ still result (filter (is_odd_at tally.now) ns)
+        ≡ text.old.items ++ still some (filter (is_odd_at tally.now) (k ∷ ns)) }
     ensures short { vec_len text.new ≤ vec_len text.old + 8 }
     ensures capacity { vec_capacity text.old ≤ vec_capacity text.new }
 {
-    if is_held(tally, floors, y, k) {
+    if tally.is_odd(k) {
         write_face(text, k);
         true
     } else {
         some
     }
-}
-
-// Whether the polygon was turned an odd number of times, and its floor is not above y.
-fn is_held(tally: &Tally, floors: &Floors, y: u32, k: u32) -> bool
-    requires polygon { k < length tally.now.odd.items }
-    requires floors { length floors.now.polygons.items ≡ length tally.now.odd.items }
-    ensures { result ≡ is_face tally.now floors.now y k }
-{
-    tally.is_odd(k) && floors.of_polygon(k) <= y
 }
 
 // Adds the number of a polygon after a space.

@@ -1,19 +1,22 @@
 //! Which polygons name an arc.
-ghost use Rattle.std.specs.Prelude.{◌≡◌, ◌<◌, ◌≤◌, ◌+◌, ◌++◌, ◌==◌, ℕ, IfOk, OnOk, All, length};
-ghost use Rattle.std.specs.Prelude.{map, slice_index, slice_index_or};
+ghost use Rattle.std.specs.Prelude.{◌≡◌, ◌<◌, ◌≤◌, ◌+◌, ◌==◌, ◌&&◌, ℕ, Bool, List, IfOk, All};
+ghost use Rattle.std.specs.Prelude.{length, slice_index, slice_index_or};
 ghost use Rattle.std.specs.List.Sorted.{IsNonDecreasingBy};
+ghost use Rattle.arc_map.specs.Map.{Map};
 ghost use Rattle.face_parity.specs.Parities.{pass_oddly};
-ghost use Rattle.face_parity.specs.Naming.{is_naming, named_by, IsStartOf, AreNamings};
+ghost use Rattle.face_parity.specs.Naming.{AreUnder, IsStartOf};
 ghost use Rattle.face_parity.specs.declared.namings.Naming.{Naming};
 
-use arc_map::{ArcMap, NoMemory};
+use arc_map::NoMemory;
 use std::alloc::{AllocError, Global};
 
-// That a polygon names an arc, once.
+// That a polygon names an arc, once, in a part of its rings. Below the floor an even number of
+// edges of the part are crossed from any point.
 #[derive(Clone, Copy)]
 pub(crate) struct Naming {
     pub arc: u32,
     pub polygon: u32,
+    pub floor: u32,
 }
 
 // The namings of the arcs of a map, in order of the arcs, and where those of each arc begin.
@@ -26,26 +29,26 @@ pub(crate) struct Namings {
 }
 
 impl Namings {
+    ghost use Rattle.face_parity.specs.Naming.{AreNamings};
     ghost use Rattle.face_parity.specs.Namings.{AreNamingsOf};
 
-    // The namings of the arcs of this map by its polygons.
-    pub fn build(alloc: Global, topology: &ArcMap) -> Result<Namings, NoMemory>
-        ensures { IfOk result (AreNamingsOf topology.now) }
+    // These namings, by arcs, of which there are so many.
+    pub fn build(alloc: Global, mut namings: Vec<Naming>, arcs: u32) -> Result<Namings, NoMemory>
+        ensures namings { IfOk result (λ n. (m : Map) → arcs ≡ length m.arcs
+            → AreNamings m namings.items → AreNamingsOf m n) }
+        ensures under { IfOk result (λ n. (floors : List ℕ) → AreUnder floors namings.items
+            → AreUnder floors n.namings.items) }
     {
-        let mut namings = Vec::new(alloc);
-        for polygon in 0..topology.polygon_count() {
-            push_polygon(&mut namings, topology.polygon(polygon), polygon)?;
-        }
         namings.sort_unstable_by_key(|naming| naming.arc);
-        let starts = starts_of(alloc, &namings, topology.arc_count())?;
+        let starts = starts_of(alloc, &namings, arcs)?;
         Ok(Namings { namings, starts })
     }
 
     // The namings of one arc.
     pub fn of_arc(&self, arc: u32) -> &[Naming]
         requires { arc + 1 < length self.now.starts.items }
-        ensures odd { (polygon : ℕ) → pass_oddly (λ n. n.polygon == polygon) result.now
-            ≡ pass_oddly (is_naming arc polygon) self.now.namings.items }
+        ensures odd { (test : Naming → Bool) → pass_oddly test result.now
+            ≡ pass_oddly (λ n. (n.arc == arc) && test n) self.now.namings.items }
         ensures below { (count : ℕ) → All (λ n. n.polygon < count) self.now.namings.items
             → All (λ n. n.polygon < count) result.now }
     {
@@ -61,17 +64,6 @@ impl Namings {
     {
         self.starts[arc]
     }
-}
-
-// Adds the namings of these arcs by the polygon.
-fn push_polygon(namings: &mut Vec<Naming>, arcs: &[u32], polygon: u32) -> Result<(), AllocError>
-    ensures { OnOk result (namings.new.items
-        ≡ namings.old.items ++ map (named_by polygon) arcs.now) }
-{
-    for arc in arcs {
-        namings.push(Naming { arc: *arc, polygon })?;
-    }
-    Ok(())
 }
 
 // Where the namings of each arc begin, which stand in order of the arcs, and where the last ones

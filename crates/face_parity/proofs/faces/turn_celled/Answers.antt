@@ -1,10 +1,12 @@
-use Rattle.std.proofs.Common.{◌≡◌, ◌∙◌, ◌<◌, All, length, get_or, subst, sym, arith, ◌==◌}
+use Rattle.std.proofs.Common.{◌≡◌, ◌∙◌, ◌<◌, All, length, get_or, subst, sym, ◌==◌}
 use Rattle.std.proofs.lemmas.List.Elements.{All-filter, All-get_or, All-weaker}
 use Rattle.face_parity.specs.Celled.{DoesReach, IsOfRow, cell_at, in_cell, run_at, spot_of}
+use Rattle.face_parity.specs.Naming.{refs_over}
 use Rattle.face_parity.specs.Tally.{is_odd_at}
 use Rattle.face_parity.specs.declared.cells.Celled.{Celled}
 use Rattle.face_parity.proofs.ByArc.{turned-next}
 use Rattle.face_parity.proofs.Running.{read-run, run-read}
+use Rattle.face_parity.proofs.Telling.{floored-by}
 use Rattle.face_parity.proofs.faces.turn_celled.Goals as goal
 
 abbrev none : Celled
@@ -36,12 +38,11 @@ loop-celled-preserved c =
     record {
       tally = c.turn_run.ensures.tally;
       polygons = c.turn_run.ensures.polygons ∙ c.loop-celled.invariant.polygons;
-      odd = λ k low floor.
-          turned-next (λ (e : Celled). e.run) m c.args.p k runs (is_odd_at c.loop-celled.tally k) (is_odd_at c.turn_run.new.tally k) _
-          c.at-found.result.now c.loop-celled.celled-index none r c.loop-celled-test.true is
-          (c.turn_run.ensures.odd k low (λ named.
-          let under = c.requires.cells.floors.under k r.arc low named in
-          let its = run.floor in
-          omega (arith, its, under, floor)))
-          (c.loop-celled.invariant.odd k low floor);
+      odd = λ k.
+          let ns = c.args.namings.now.namings.items in
+          let y = c.args.at.y in
+          turned-next (λ (e : Celled). e.run) m c.args.p (refs_over ns y k) runs (is_odd_at c.loop-celled.tally k)
+          (is_odd_at c.turn_run.new.tally k) _ c.at-found.result.now c.loop-celled.celled-index none r c.loop-celled-test.true is
+          (c.turn_run.ensures.odd k (floored-by c.args.cells.now.floors ns y k r c.requires.under run.floor))
+          (c.loop-celled.invariant.odd k);
     }

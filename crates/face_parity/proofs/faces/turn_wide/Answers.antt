@@ -1,9 +1,11 @@
-use Rattle.std.proofs.Common.{◌≡◌, ◌∙◌, ◌<◌, All, length, get_or, subst, sym, arith, true}
+use Rattle.std.proofs.Common.{◌≡◌, ◌∙◌, ◌<◌, All, length, get_or, subst, sym, true}
 use Rattle.std.proofs.lemmas.List.Elements.{All-get_or, All-weaker}
 use Rattle.face_parity.specs.Celled.{is_wide, run_at}
+use Rattle.face_parity.specs.Naming.{refs_over}
 use Rattle.face_parity.specs.Tally.{is_odd_at}
 use Rattle.face_parity.proofs.ByArc.{turned-next}
 use Rattle.face_parity.proofs.Running.{read-run, run-read}
+use Rattle.face_parity.proofs.Telling.{floored-by}
 use Rattle.face_parity.proofs.faces.turn_wide.Goals as goal
 
 pub run-requires : goal.run-requires
@@ -29,12 +31,11 @@ loop-number-preserved c =
     record {
       tally = c.turn_run.ensures.tally;
       polygons = c.turn_run.ensures.polygons ∙ c.loop-number.invariant.polygons;
-      odd = λ k low floor.
-          turned-next (λ n. n) m c.args.p k runs (is_odd_at c.loop-number.tally k) (is_odd_at c.turn_run.new.tally k) _
+      odd = λ k.
+          let ns = c.args.namings.now.namings.items in
+          let y = c.args.at.y in
+          turned-next (λ n. n) m c.args.p (refs_over ns y k) runs (is_odd_at c.loop-number.tally k) (is_odd_at c.turn_run.new.tally k) _
           c.wide-wide.result.now c.loop-number.number-index 0 r c.loop-number-test.true is
-          (c.turn_run.ensures.odd k low (λ named.
-          let under = c.requires.cells.floors.under k r.arc low named in
-          let its = run.floor in
-          omega (arith, its, under, floor)))
-          (c.loop-number.invariant.odd k low floor);
+          (c.turn_run.ensures.odd k (floored-by c.args.cells.now.floors ns y k r c.requires.under run.floor))
+          (c.loop-number.invariant.odd k);
     }

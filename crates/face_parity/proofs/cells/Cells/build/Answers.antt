@@ -11,8 +11,8 @@ invariant_of-result c = record {
   sorted = IsNonDecreasingBy-from_sort_by_key (λ s. s.cell) _ c.sort_unstable_by_key.ensures.sorted (λ a r q k. search rules);
 }
 
-pub returns : goal.returns
-returns c =
+pub returns-clause-cells : goal.returns-clause-cells
+returns-clause-cells c =
     let runs = c.in_ok-runs.runs.items in
     let limits = c.of-limits.result in
     let width = c.width-width.result in
@@ -20,7 +20,7 @@ returns c =
     let celled = c.in_ok-celled.celled.items in
     let are = subst (λ rs. AreCelled rs limits width height celled) c.deref-5.ensures.value c.in_ok-celled.ensures in
     record {
-      floors = c.in_ok-floors.ensures;
+      floors = c.requires;
       runs = c.in_ok-runs.ensures;
       wide = subst (λ rs. AreWideTo rs limits (length rs) c.in_ok-wide.wide.items) c.deref-4.ensures.value c.in_ok-wide.ensures;
       celled = celled-reordered runs limits width height celled c.sort_unstable_by_key.new.self.items

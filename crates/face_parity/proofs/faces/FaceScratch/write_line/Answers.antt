@@ -4,7 +4,7 @@ use Rattle.std.specs.Fmt.{signed_decimal}
 use Rattle.std.proofs.lemmas.Option.{get_or_from_slice_get}
 use Rattle.arc_map.specs.Arranged.{nowhere}
 use Rattle.face_parity.specs.Lines.{line_of, numbers_text, faces_of}
-use Rattle.face_parity.specs.Faces.{is_face}
+use Rattle.face_parity.specs.Tally.{is_odd_at}
 use Rattle.face_parity.proofs.Found.{odd-faces}
 use Rattle.face_parity.proofs.faces.FaceScratch.write_line.Goals as goal
 
@@ -20,11 +20,9 @@ returns-clause-line c =
     ++ signed_decimal p.x ++ codes " " ++ signed_decimal p.y ++ codes " in" = c.write_point.ensures.value in
     let count : length t.odd.items ≡ length m.polygons = ap length c.sort.ensures.odd ∙ c.turn_crossed.ensures.polygons
     ∙ c.clear.ensures.count ∙ c.requires.scratch.polygons in
-    let at = c.of-at.result in
-    let floors = c.args.self.now.cells.floors in
-    let odd : filter (is_face t floors at.y) t.turned.items ≡ faces_of m p =
-    odd-faces m floors p at t c.requires.scratch.cells.floors c.of-at.ensures c.sort.ensures.tally c.sort.ensures.rising count
-    (λ k low floor. ap (λ odd. get_or odd k false) c.sort.ensures.odd ∙ c.turn_crossed.ensures.odd k low floor) in
+    let odd : filter (is_odd_at t) t.turned.items ≡ faces_of m p =
+    odd-faces m p t c.sort.ensures.tally c.sort.ensures.rising count (λ k low. ap (λ odd. get_or odd k false) c.sort.ensures.odd
+    ∙ c.turn_crossed.ensures.odd k low) in
     let faces : c.write_faces.new.text.items ≡ c.write_point.new.text.items ++ numbers_text (faces_of m p) = c.write_faces.ensures.value
     ∙ ap (λ ns. c.write_point.new.text.items ++ numbers_text ns) odd in
     let last : c.put.new.text.items ≡ c.write_faces.new.text.items ++ codes "\n" = c.put.ensures.value in

@@ -1,7 +1,0 @@
-use Rattle.std.proofs.Common.{◌≡◌, ◌++◌, drop, map}
-use Rattle.face_parity.specs.Naming.{named_by}
-use Rattle.face_parity.proofs.namings.push_polygon.Given as goal
-
-abbrev pub invariant-loop-arc : goal.invariant-loop-arc
-invariant-loop-arc l = l.namings.items ++ map (named_by l.polygon) (drop l.arc-index l.arcs) ≡ l.fn.namings.items
-    ++ map (named_by l.polygon) l.arcs
