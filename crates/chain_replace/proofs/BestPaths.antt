@@ -7,7 +7,6 @@ use Rattle.grid_exact.specs.Paths.{LeadsTo, IsPath, IsLeastSteps, AreLayers, Pre
 use Rattle.grid_exact.proofs.Certificates.{certify, LeadsTo-below}
 use Rattle.arc_map.specs.Chains.{Chain}
 use Rattle.arc_map.specs.Work.{AreKeptIn}
-use Rattle.chain_replace.specs.Finder.{AreAlike}
 
 -- ---- there is one of each
 
@@ -93,44 +92,6 @@ path_is_kept Pair k (start ∷ rest) path =
       last = rw place (last_is Pair (length k.rest) start rest leads);
     }
 
--- ---- a chain of one edge
-
-one_way : (Pair : ℕ → ℕ → Type 0) (rest : List ℕ) → LeadsTo Pair 1 0 rest → rest ≡ 1 ∷ []
-one_way Pair [] leads = absurd (omega arith)
-one_way Pair (next ∷ []) leads = let e = leads.2 in rw e refl
-one_way Pair (next ∷ after ∷ rest) leads = absurd (past next after rest leads.0 leads.2)
-  where
-    past : (next after : ℕ) (rest : List ℕ) → 0 < next → LeadsTo Pair 1 next (after ∷ rest) → ⊥
-    past next after rest up leads = let higher = leads.0 in behind after rest (omega arith) leads.2
-      where
-        behind : (at : ℕ) (rest : List ℕ) → 1 < at → LeadsTo Pair 1 at rest → ⊥
-        behind at [] above there = omega arith
-        behind at (to ∷ more) above there = let higher = there.0 in behind to more (omega arith) there.2
-
-pub single_path : (Pair : ℕ → ℕ → Type 0) → Pair 0 1 → IsBestPath Pair 1 (0 ∷ 1 ∷ [])
-single_path Pair on = record { leads = (refl, (omega arith, on, refl)); fewest = fewest; first = first }
-  where
-    same : (other : List ℕ) → IsPath Pair 1 other → other ≡ 0 ∷ 1 ∷ []
-    same [] none = absurd none
-    same (start ∷ rest) path = let first = path.0 in let way = one_way Pair rest path.1 in cc
-
-    fewest : (other : List ℕ) → IsPath Pair 1 other → 2 ≤ length other
-    fewest other path = omega (arith, ap length (same other path))
-
-    first : (other : List ℕ) → IsPath Pair 1 other → length other ≡ 2 → Precedes (0 ∷ 1 ∷ []) other
-    first other path count = rw (same other path) (inr (refl, inr (refl, tt)))
-
-pub single_layers : (Pair : ℕ → ℕ → Type 0) → Pair 0 1 → AreLayers Pair 1 (1 ∷ 0 ∷ [])
-single_layers Pair on = record { count = refl; each = each }
-  where
-    each : (i : ℕ) → i ≤ 1 → IsLeastSteps Pair 1 i (slice_index (1 ∷ 0 ∷ []) i)
-    each zero within = record {
-      some = (1 ∷ [], (omega arith, on, refl), refl);
-      least = λ rest leads. omega (arith, ap length (one_way Pair rest leads));
-    }
-    each (suc zero) within = record { some = ([], refl, refl); least = λ rest leads. omega arith }
-    each (suc (suc i)) within = absurd (omega arith)
-
 -- ---- how long a path is
 
 pub steps_left : (Pair : ℕ → ℕ → Type 0) (m i : ℕ) (rest : List ℕ) → LeadsTo Pair m i rest → i + length rest ≤ m
@@ -141,39 +102,3 @@ pub path_short : (Pair : ℕ → ℕ → Type 0) (m : ℕ) (path : List ℕ) →
 path_short Pair m path leads =
     let parts = path_leads Pair m path leads in
     omega (arith, parts.1, steps_left Pair m 0 (drop 1 path) parts.0)
-
--- ---- two sets with the same pairs up to the last vertex
-
-turned : (P Q : ℕ → ℕ → Type 0) (m : ℕ) → AreAlike P Q m → AreAlike Q P m
-turned P Q m alike = record { there = alike.back; back = alike.there }
-
-leads_alike : (P Q : ℕ → ℕ → Type 0) (m i : ℕ) (rest : List ℕ) → AreAlike P Q m → LeadsTo P m i rest → LeadsTo Q m i rest
-leads_alike P Q m i [] alike leads = leads
-leads_alike P Q m i (next ∷ rest) alike leads =
-    (leads.0, alike.there i next leads.0 (LeadsTo-below P m next rest leads.2) leads.1, leads_alike P Q m next rest alike leads.2)
-
-path_alike : (P Q : ℕ → ℕ → Type 0) (m : ℕ) (path : List ℕ) → AreAlike P Q m → IsPath P m path → IsPath Q m path
-path_alike P Q m [] alike none = none
-path_alike P Q m (start ∷ rest) alike path = (path.0, leads_alike P Q m 0 rest alike path.1)
-
-pub best_alike : (P Q : ℕ → ℕ → Type 0) (m : ℕ) (path : List ℕ) → AreAlike P Q m → IsBestPath P m path → IsBestPath Q m path
-best_alike P Q m path alike best =
-    let back = turned P Q m alike in
-    record {
-      leads = path_alike P Q m path alike best.leads;
-      fewest = λ other leads. best.fewest other (path_alike Q P m other back leads);
-      first = λ other leads same. best.first other (path_alike Q P m other back leads) same;
-    }
-
-pub layers_alike : (P Q : ℕ → ℕ → Type 0) (m : ℕ) (layers : List ℕ) → AreAlike P Q m → AreLayers P m layers → AreLayers Q m layers
-layers_alike P Q m layers alike known =
-    let back = turned P Q m alike in
-    record {
-      count = known.count;
-      each = λ i within.
-          let here = known.each i within in
-          record {
-            some = (here.some.0, leads_alike P Q m i here.some.0 alike here.some.1, here.some.2);
-            least = λ rest leads. here.least rest (leads_alike Q P m i rest back leads);
-          };
-    }

@@ -4,7 +4,6 @@ pub mod SameOutcome
 pub mod Replacing
 pub mod Sound
 pub mod Weighing
-pub mod Fronts
 pub mod Advancing
 pub mod Ends
 pub mod NearPaths

@@ -1,13 +1,13 @@
--- What is found of a chain, and sets of pairs that are alike.
-use Rattle.std.specs.Prelude.{◌<◌, ◌≤◌, ℕ, List}
+-- What is found of a chain.
+use Rattle.std.specs.Prelude.{ℕ, ◌+◌, List, take}
+use Rattle.layer_paths.specs.Lay.{Lay}
 
--- the best path of a chain, its layers, and how many items the index of the map may have
+-- the best path of a chain, its vertices with their layers, and how many items the index of the map may have
 pub record Found : Type 0 where
   pub path : List ℕ
-  pub layers : List ℕ
+  pub lay : Lay
   pub room : ℕ
 
--- the two sets have the same pairs up to the last vertex
-pub record AreAlike (P Q : ℕ → ℕ → Type 0) (m : ℕ) : Type 0 where
-  pub there : (i j : ℕ) → i < j → j ≤ m → P i j → Q i j
-  pub back : (i j : ℕ) → i < j → j ≤ m → Q i j → P i j
+-- for each vertex the least number of steps to the last
+abbrev pub layers_in : Found → List ℕ
+layers_in f = take (f.lay.last + 1) f.lay.layers

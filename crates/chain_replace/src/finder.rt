@@ -1,22 +1,20 @@
 //! The best path of a chain and its layers, worked out in memory that is taken once.
-ghost use Rattle.std.specs.Prelude.{◌≡◌, ◌+◌, ◌<◌, ◌≤◌, ◌∷◌, [], ℕ, All, IfOk, length, take};
+ghost use Rattle.std.specs.Prelude.{◌≡◌, ◌+◌, ◌<◌, ◌≤◌, All, IfOk, length};
 ghost use Rattle.grid_exact.specs.Paths.{AreLayers, IsBestPath};
 ghost use Rattle.grid_exact.specs.Weights.{StaysOnGrid};
 ghost use Rattle.arc_map.specs.Chains.{chain_at, chain_places, IsClearIn};
 ghost use Rattle.map_index.specs.IndexedMap.{items_in};
-ghost use Rattle.layer_paths.specs.Bits.{HasBit};
-ghost use Rattle.side_wedge.specs.Flanks.{HoldsReach, IsBeside};
-ghost use Rattle.shortcut_graph.specs.Weighed.{AreWeighed};
-ghost use Rattle.chain_replace.specs.Run.{IsAllowedHere, IsAllowedIn, last_of};
-ghost use Rattle.chain_replace.specs.Finder.{AreAlike};
+ghost use Rattle.layer_paths.specs.Lay.{IsLayered, IsTrail};
+ghost use Rattle.chain_replace.specs.Run.{IsAllowedIn, last_of};
+ghost use Rattle.chain_replace.specs.Finder.{layers_in};
 
 use crate::terms::Terms;
 use crate::weigh::weigh;
 use arc_map::NoMemory;
 use grid_exact::MAX_CHAIN_VERTICES;
-use layer_paths::{Rows, layers, least_path};
+use layer_paths::Layering;
 use map_index::IndexedMap;
-use shortcut_graph::{Ruler, fill};
+use shortcut_graph::{Ruler, lay};
 use side_wedge::Beside;
 use std::alloc::Global;
 use std::marker::Model;
@@ -25,14 +23,11 @@ use std::marker::Model;
 // are worked out. Contracts see the two, and how many items the index of the map may have.
 #[derive(Drop)]
 pub struct PathFinder {
-    rows: Rows,
+    layering: Layering,
     beside: Beside,
-    row: Vec<bool>,
     xs: Vec<i64>,
     ys: Vec<i64>,
-    layers: Vec<u32>,
     path: Vec<u32>,
-    places: usize,
     kept: usize,
 }
 
@@ -54,14 +49,11 @@ impl PathFinder {
         ensures { IfOk result (λ finder. finder.room ≡ items) }
     {
         Ok(PathFinder {
-            rows: Rows::new(alloc)?,
+            layering: Layering::new(alloc)?,
             beside: Beside::with_room(alloc, items)?,
-            row: vec![in alloc; false; MAX_CHAIN_VERTICES]?,
             xs: vec![in alloc; 0; MAX_CHAIN_VERTICES]?,
             ys: vec![in alloc; 0; MAX_CHAIN_VERTICES]?,
-            layers: vec![in alloc; 0; MAX_CHAIN_VERTICES]?,
             path: vec![in alloc; 0; MAX_CHAIN_VERTICES]?,
-            places: 0,
             kept: 0,
         })
     }
@@ -75,9 +67,9 @@ impl PathFinder {
 
     // For each vertex of the chain the least number of allowed steps to the last.
     pub fn layers(&self) -> &[u32]
-        ensures { result.now ≡ self.now.layers }
+        ensures { result.now ≡ layers_in self.now }
     {
-        &self.layers[..self.places]
+        self.layering.layers()
     }
 
     // Finds the best path of chain number `k` and its layers. It takes no memory.
@@ -90,41 +82,52 @@ impl PathFinder {
         ensures path { IsBestPath (IsAllowedIn terms.now map.now k) (last_of map.now k)
             self.new.path }
         ensures layers { AreLayers (IsAllowedIn terms.now map.now k) (last_of map.now k)
-            self.new.layers }
+            (layers_in self.new) }
+        ensures room { self.new.room ≡ self.old.room }
+    {
+        self.lay(map, k, terms);
+        self.write_path();
+    }
+
+    // Lays the vertices of chain number `k`.
+    fn lay(&mut self, map: &IndexedMap, k: u32, terms: &Terms)
+        requires chain { k < length map.now.chains }
+        requires clear { IsClearIn map.now.chains map.now.read.points k }
+        requires room { items_in map.now ≤ self.old.room }
+        requires on_grid { All (StaysOnGrid terms.now.weights)
+            (chain_places (chain_at map.now.chains k)) }
+        ensures layers { IsLayered (IsAllowedIn terms.now map.now k) (last_of map.now k)
+            self.new.lay }
+        ensures whole { self.new.lay.front ≡ 0 }
         ensures room { self.new.room ≡ self.old.room }
     {
         if map.chain(k).len() == 2 {
-            self.keep_edge();
+            self.layering.single();
         } else {
             self.search(map, k, terms);
         }
     }
 
-    // The path and the layers of a chain of one edge.
-    fn keep_edge(&mut self)
-        ensures path { self.new.path ≡ 0 ∷ 1 ∷ [] }
-        ensures layers { self.new.layers ≡ 1 ∷ 0 ∷ [] }
+    // Writes the path that the next vertices make up.
+    fn write_path(&mut self)
+        requires { self.old.lay.front ≡ 0 }
+        ensures trail { IsTrail self.new.lay.nexts self.new.lay.last self.new.path }
+        ensures lay { self.new.lay ≡ self.old.lay }
         ensures room { self.new.room ≡ self.old.room }
     {
-        self.path[0] = 0;
-        self.path[1] = 1;
-        self.layers[0] = 1;
-        self.layers[1] = 0;
-        self.places = 2;
-        self.kept = 2;
+        self.kept = self.layering.write_path(&mut self.path);
     }
 
-    // Finds the best path and the layers by the rows of allowed pairs.
+    // Lays the vertices by the pairs that are allowed.
     fn search(&mut self, map: &IndexedMap, k: u32, terms: &Terms)
         requires chain { k < length map.now.chains }
         requires clear { IsClearIn map.now.chains map.now.read.points k }
         requires room { items_in map.now ≤ self.old.room }
         requires on_grid { All (StaysOnGrid terms.now.weights)
             (chain_places (chain_at map.now.chains k)) }
-        ensures path { IsBestPath (IsAllowedIn terms.now map.now k) (last_of map.now k)
-            self.new.path }
-        ensures layers { AreLayers (IsAllowedIn terms.now map.now k) (last_of map.now k)
-            self.new.layers }
+        ensures layers { IsLayered (IsAllowedIn terms.now map.now k) (last_of map.now k)
+            self.new.lay }
+        ensures whole { self.new.lay.front ≡ 0 }
         ensures room { self.new.room ≡ self.old.room }
     {
         let places = map.chain(k);
@@ -137,60 +140,6 @@ impl PathFinder {
             bound: terms.bound,
             weights: terms.weights,
         };
-        fill_rows(&mut self.rows, map, k, &self.beside, &ruler, &mut self.row);
-        write_layers(&self.rows, count - 1, &mut self.layers);
-        self.places = count;
-        self.kept = write_path(&self.rows, count - 1, &self.layers[..count], &mut self.path);
+        lay(&mut self.layering, map, k, &self.beside, &ruler);
     }
-}
-
-// Sets the bits of the pairs of chain number `k` that are allowed, and clears the others. The row
-// is written over.
-fn fill_rows(
-    rows: &mut Rows,
-    map: &IndexedMap,
-    k: u32,
-    beside: &Beside,
-    ruler: &Ruler<'_>,
-    row: &mut [bool],
-)
-    requires chain { k < length map.now.chains }
-    requires clear { IsClearIn map.now.chains map.now.read.points k }
-    requires beside { IsBeside map.now.chains map.now.read.points k beside.now }
-    requires reach { HoldsReach map.now.chains map.now.read.points k ruler.now.weights
-        ruler.now.bound beside.now }
-    requires weighed { AreWeighed ruler.now.weights (chain_places (chain_at map.now.chains k))
-        ruler.now.xs.now ruler.now.ys.now }
-    requires row { last_of map.now k + 1 ≤ length row.old }
-    ensures pairs { AreAlike (HasBit rows.new)
-        (IsAllowedHere ruler.now.bound ruler.now.weights map.now k) (last_of map.now k) }
-    ensures length { length row.new ≡ length row.old }
-{
-    let count = map.chain(k).len();
-    fill(rows, map, k, beside, ruler, &mut row[..count]);
-}
-
-// Writes the layers of the vertices from 0 to m.
-fn write_layers(rows: &Rows, m: usize, out: &mut [u32])
-    requires some { 1 ≤ m }
-    requires size { m < 1024 }
-    requires room { m < length out.old }
-    requires next { (i : ℕ) → i < m → HasBit rows.now i (i + 1) }
-    ensures layers { AreLayers (HasBit rows.now) m (take (m + 1) out.new) }
-    ensures length { length out.new ≡ length out.old }
-{
-    layers(rows, m, &mut out[..m + 1]);
-}
-
-// Writes the best path from 0 to m, and answers how many entries it has.
-fn write_path(rows: &Rows, m: usize, layers: &[u32], out: &mut [u32]) -> usize
-    requires some { 1 ≤ m }
-    requires size { m < 1024 }
-    requires room { m < length out.old }
-    requires layers { AreLayers (HasBit rows.now) m layers.now }
-    ensures within { result ≤ m + 1 }
-    ensures best { IsBestPath (HasBit rows.now) m (take result out.new) }
-    ensures length { length out.new ≡ length out.old }
-{
-    least_path(rows, m, layers, &mut out[..m + 1])
 }

@@ -1,2 +1,4 @@
-pub mod Bits
 pub mod Steps
+pub mod Order
+pub mod Lay
+pub mod Threads

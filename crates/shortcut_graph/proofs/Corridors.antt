@@ -1,5 +1,5 @@
 -- A way between two limits is within the bound of the vertex that they stand for, and the tighter of two limits stands for both.
-use Rattle.std.proofs.Common.{◌≡◌, inl, inr, Bool, true, false, ℕ, ◌+◌, List, ℤ, pos, ◌+ℤ◌, ◌-ℤ◌, ◌*ℤ◌, ◌≤ℤ◌, ◌<ℤ◌, refl, sym, ap, subst}
+use Rattle.std.proofs.Common.{◌≡◌, inl, inr, Bool, true, false, ℕ, ◌+◌, ◌≤◌, List, ℤ, pos, ◌+ℤ◌, ◌-ℤ◌, ◌*ℤ◌, ◌≤ℤ◌, ◌<ℤ◌, refl, sym, ap, subst}
 use Rattle.std.proofs.Common.{◌∙◌, arith}
 use Rattle.std.proofs.lemmas.Bool.{cases_lt}
 use Rattle.grid_exact.specs.Geometry.{Place, turned, area_of, square_of, IsWithin}
@@ -12,6 +12,7 @@ use Rattle.grid_exact.proofs.Polynomial.{Whole, ◌⊕◌, ◌⊖◌, ◌⊗◌,
 use Rattle.lane_kernels.specs.Places.{place_at}
 use Rattle.side_wedge.proofs.Rays.{area_swapped}
 use Rattle.shortcut_graph.specs.declared.corridor.Corridor.{Corridor}
+use Rattle.shortcut_graph.specs.Weighed.{IsNearRun}
 use Rattle.shortcut_graph.specs.Corridor.{laid_across, made_rise, mirrored, seen_along, IsLowerLimit, IsUpperLimit, IsPastOrigin, KeepsTo}
 use Rattle.shortcut_graph.specs.Corridor.{IsCorridor}
 
@@ -203,55 +204,82 @@ both_keep a b d same origin passable other_passable past lower upper reach other
 
 -- ---- one vertex, and one vertex more
 
-pub no_vertex : (c : Corridor) (xs ys : List ℤ) (bound : ℤ) (i : ℕ) (direction : Direction) (o : Place) → c.direction ≡ direction
-    → c.origin ≡ o → o ≡ seen_along direction (place_at xs ys i) → (c.is_passable ≡ true → IsPastOrigin c)
-    → IsCorridor c xs ys bound i (i + 1)
-no_vertex c xs ys bound i direction o same origin start past =
+pub no_vertex : (c : Corridor) (xs ys : List ℤ) (bound : ℤ) (j : ℕ) (direction : Direction) (o : Place) → c.direction ≡ direction → c.origin ≡ o
+    → o ≡ seen_along direction (place_at xs ys j) → (c.is_passable ≡ true → IsPastOrigin c) → IsCorridor c xs ys bound j j
+no_vertex c xs ys bound j direction o same origin start past =
     record {
-      origin = origin ∙ start ∙ ap (λ (g : Direction). seen_along g (place_at xs ys i)) (sym same);
+      origin = origin ∙ start ∙ ap (λ (g : Direction). seen_along g (place_at xs ys j)) (sym same);
       past = past;
       near = λ v keeps k low high. absurd (omega arith);
     }
 
 pub one_more : (c d : Corridor) (xs ys : List ℤ) (bound : ℤ) (i j : ℕ) → d.direction ≡ c.direction → d.origin ≡ c.origin
     → (d.is_passable ≡ true → IsPastOrigin d)
-    → ((v : Place) → KeepsTo d v → KeepsTo c v × IsWithin c.origin v (seen_along c.direction (place_at xs ys j)) bound)
-    → IsCorridor c xs ys bound i j → IsCorridor d xs ys bound i (j + 1)
+    → ((v : Place) → KeepsTo d v → KeepsTo c v × IsWithin c.origin v (seen_along c.direction (place_at xs ys i)) bound)
+    → IsCorridor c xs ys bound (i + 1) j → IsCorridor d xs ys bound i j
 one_more c d xs ys bound i j direction origin past near corridor =
     record {
-      origin = origin ∙ corridor.origin ∙ ap (λ (g : Direction). seen_along g (place_at xs ys i)) (sym direction);
+      origin = origin ∙ corridor.origin ∙ ap (λ (g : Direction). seen_along g (place_at xs ys j)) (sym direction);
       past = past;
       near = λ v keeps k low high.
           let both = near (seen_along c.direction v) (subst (λ (g : Direction). KeepsTo d (seen_along g v)) direction keeps) in
-          elim (cases_lt k j) [
-            | inl below ↦ corridor.near v both.0 k low below
+          elim (cases_lt i k) [
+            | inl later ↦ corridor.near v both.0 k (omega arith) high
             | inr up ↦
-                let same : j ≡ k = omega arith in
-                let seen : IsWithin (seen_along c.direction (place_at xs ys i)) (seen_along c.direction v)
-                (seen_along c.direction (place_at xs ys j)) bound
-                = subst (λ (o : Place). IsWithin o (seen_along c.direction v) (seen_along c.direction (place_at xs ys j)) bound)
-                corridor.origin both.1 in
-                subst (λ (n : ℕ). IsWithin (place_at xs ys i) v (place_at xs ys n) bound) same
-                (within_as_seen c.direction (place_at xs ys i) v (place_at xs ys j) bound seen)
+                let same : i ≡ k = omega arith in
+                let seen : IsWithin (seen_along c.direction (place_at xs ys j)) (seen_along c.direction v)
+                (seen_along c.direction (place_at xs ys i)) bound
+                = subst (λ (o : Place). IsWithin o (seen_along c.direction v) (seen_along c.direction (place_at xs ys i)) bound) corridor.origin
+                both.1 in
+                subst (λ (n : ℕ). IsWithin (place_at xs ys j) v (place_at xs ys n) bound) same
+                (within_as_seen c.direction (place_at xs ys j) v (place_at xs ys i) bound seen)
           ];
     }
 
 -- one vertex more that is near the origin
 pub one_beside : (c : Corridor) (xs ys : List ℤ) (bound : ℤ) (i j : ℕ)
-    → IsWithin c.origin c.origin (seen_along c.direction (place_at xs ys j)) bound → IsCorridor c xs ys bound i j
-    → IsCorridor c xs ys bound i (j + 1)
+    → IsWithin c.origin c.origin (seen_along c.direction (place_at xs ys i)) bound → IsCorridor c xs ys bound (i + 1) j
+    → IsCorridor c xs ys bound i j
 one_beside c xs ys bound i j beside corridor =
     record {
       origin = corridor.origin;
       past = corridor.past;
-      near = λ v keeps k low high. elim (cases_lt k j) [
-        | inl before ↦ corridor.near v keeps k low before
+      near = λ v keeps k low high. elim (cases_lt i k) [
+        | inl later ↦ corridor.near v keeps k (omega arith) high
         | inr up ↦
-            let same : j ≡ k = omega arith in
-            let start = seen_along c.direction (place_at xs ys i) in
-            let here = subst (λ (o : Place). IsWithin o o (seen_along c.direction (place_at xs ys j)) bound) corridor.origin beside in
-            let seen = near_origin start (seen_along c.direction v) (seen_along c.direction (place_at xs ys j)) bound here in
-            subst (λ (n : ℕ). IsWithin (place_at xs ys i) v (place_at xs ys n) bound) same
-            (within_as_seen c.direction (place_at xs ys i) v (place_at xs ys j) bound seen)
+            let same : i ≡ k = omega arith in
+            let start = seen_along c.direction (place_at xs ys j) in
+            let here = subst (λ (o : Place). IsWithin o o (seen_along c.direction (place_at xs ys i)) bound) corridor.origin beside in
+            let seen = near_origin start (seen_along c.direction v) (seen_along c.direction (place_at xs ys i)) bound here in
+            subst (λ (n : ℕ). IsWithin (place_at xs ys j) v (place_at xs ys n) bound) same
+            (within_as_seen c.direction (place_at xs ys j) v (place_at xs ys i) bound seen)
       ];
     }
+
+-- ---- the way back
+
+square_back : (n s a b p : ℤ) → square_of (n *ℤ (p -ℤ b) -ℤ (n -ℤ s) *ℤ (a -ℤ b)) ≡ square_of (n *ℤ (p -ℤ a) -ℤ s *ℤ (b -ℤ a))
+square_back n s a b p = identity_5 n s a b p (λ n s a b p. (n ⊗ (p ⊖ b) ⊖ (n ⊖ s) ⊗ (a ⊖ b)) ⊗ (n ⊗ (p ⊖ b) ⊖ (n ⊖ s) ⊗ (a ⊖ b)) ≈
+    (n ⊗ (p ⊖ a) ⊖ s ⊗ (b ⊖ a)) ⊗ (n ⊗ (p ⊖ a) ⊖ s ⊗ (b ⊖ a))) refl
+
+within_back : (a b p : Place) (e : ℤ) → IsWithin a b p e → IsWithin b a p e
+within_back a b p e h =
+    let n = h.denominator in let s = h.numerator in
+    let near = h.near in let low = h.from_start in let high = h.to_end in
+    let across = square_back n s a.x b.x p.x in
+    let up = square_back n s a.y b.y p.y in
+    record {
+      denominator = n;
+      numerator = n -ℤ s;
+      whole = h.whole;
+      from_start = omega (arith, sums);
+      to_end = omega (arith, sums);
+      near =
+          omega (arith, sums, across, up);
+    }
+
+-- the way back from j to i keeps to the corridor, which stands for all vertices between
+pub near_back : (c : Corridor) (xs ys : List ℤ) (bound : ℤ) (i first j : ℕ) → first ≤ i + 1 → IsCorridor c xs ys bound first j
+    → KeepsTo c (seen_along c.direction (place_at xs ys i)) → IsNearRun xs ys bound i j
+near_back c xs ys bound i first j all corridor keeps k low high =
+    within_back (place_at xs ys j) (place_at xs ys i) (place_at xs ys k) bound (corridor.near (place_at xs ys i) keeps k (omega arith) high)

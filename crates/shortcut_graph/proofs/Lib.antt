@@ -3,7 +3,7 @@ pub mod Near
 pub mod DoubleEdges
 pub mod Twins
 pub mod AllowedPairs
-pub mod Filling
+pub mod Searching
 pub mod Marking
 pub mod Coordinates
 pub mod Corridors

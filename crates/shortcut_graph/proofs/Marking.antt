@@ -1,106 +1,75 @@
--- The open pairs of one start: the consistent ones, but for a pair with a double edge.
-use Rattle.std.proofs.Common.{◌≡◌, ◌≢◌, inl, inr, ℕ, ℤ, ◌+◌, ◌<◌, ◌≤◌, ◌↔◌, Bool, false, IsTrue, List, length, get_or, set, subst, sym}
-use Rattle.std.proofs.Common.{arith, get_or-set_other, get_or-set_same}
-use Rattle.std.proofs.lemmas.Bool.{cases_lt}
-use Rattle.std.proofs.lemmas.List.{get_or_past, length-set}
+-- Which pairs have a double edge, and what is found of a pair.
+use Rattle.std.proofs.Common.{◌≡◌, inl, inr, ℕ, ◌+◌, ◌-◌, ◌<◌, ◌≤◌, ◌↔◌, ℤ, Bool, false, IsTrue, List, length, subst, sym, arith}
 use Rattle.grid_exact.specs.Geometry.{Place}
 use Rattle.arc_map.specs.Chains.{Chain, chain_at, AreChains, IsClearIn}
+use Rattle.arc_map.specs.Work.{Work}
 use Rattle.grid_exact.specs.Weights.{Scales}
 use Rattle.side_wedge.specs.Flanks.{Flanks, HoldsReach, IsNearPair}
 use Rattle.side_wedge.specs.Obstacles.{IsConsistentPair}
-use Rattle.shortcut_graph.specs.Doubles.{HasDoubleEdge, IsDoubled, IsOpenPair}
+use Rattle.shortcut_graph.specs.Weighed.{IsNearRun}
+use Rattle.shortcut_graph.specs.Doubles.{HasDoubleEdge, IsDoubled}
+use Rattle.shortcut_graph.specs.Pairs.{AllowedBy, IsReady}
 use Rattle.shortcut_graph.proofs.DoubleEdges.{only_at_ends, doubled, double_edge}
+use Rattle.shortcut_graph.proofs.Near.{near_run}
+use Rattle.shortcut_graph.proofs.Numbers.{length-chain_places}
 
-pub single_inside : (chains : List Chain) (points : List Place) (k i j : ℕ) → AreChains chains → IsClearIn chains points k → i < j
-    → j ≤ length (chain_at chains k).rest → i ≢ 0 → ¬ (HasDoubleEdge chains k i j)
-single_inside chains points k i j are clear ij jm inside double = inside (only_at_ends chains points k i j are clear ij jm double).0
-
-pub single_else : (chains : List Chain) (points : List Place) (k i j : ℕ) → AreChains chains → IsClearIn chains points k → i < j
-    → j ≤ length (chain_at chains k).rest → ¬ (IsDoubled chains k) → ¬ (HasDoubleEdge chains k i j)
-single_else chains points k i j are clear ij jm no_twin double =
-    let ends = only_at_ends chains points k i j are clear ij jm double in
-    no_twin
-    (doubled chains points k are clear (omega arith)
-    (subst (λ (n : ℕ). HasDoubleEdge chains k n (length (chain_at chains k).rest)) ends.0
-    (subst (λ (n : ℕ). HasDoubleEdge chains k i n) ends.1 double)))
+-- only the pair of the first vertex and the last can have a double edge
+pub double_told : (chains : List Chain) (points : List Place) (k i j : ℕ) (t d : Bool) → AreChains chains → IsClearIn chains points k
+    → i < j → j ≤ length (chain_at chains k).rest → (IsTrue d ↔ IsDoubled chains k)
+    → (IsTrue t ↔ (IsTrue d × (i ≡ 0) × (j ≡ length (chain_at chains k).rest))) → IsTrue t ↔ HasDoubleEdge chains k i j
+double_told chains points k i j t d are clear ij jm twin test =
+    let last = length (chain_at chains k).rest in (
+      λ yes.
+          let parts = test.0 yes in
+          subst (λ (n : ℕ). HasDoubleEdge chains k n j) (sym parts.1)
+          (subst (λ (n : ℕ). HasDoubleEdge chains k 0 n) (sym parts.2) (double_edge chains k (twin.0 parts.0))),
+      λ double.
+          let ends = only_at_ends chains points k i j are clear ij jm double in
+          let whole : HasDoubleEdge chains k 0 last = subst (λ (n : ℕ). HasDoubleEdge chains k n last) ends.0
+          (subst (λ (n : ℕ). HasDoubleEdge chains k i n) ends.1 double) in
+          test.1 (twin.1 (doubled chains points k are clear (omega arith) whole), ends.0, ends.1),
+    )
 
 pub never_true : (t : Bool) → t ≡ false → ¬ (IsTrue t)
 never_true t e h = cc
 
--- ---- rows that tell
+-- ---- what is found of a pair
 
--- the row tells of each place past the start where the first property holds, and where it tells, and the place is near, the second one
--- holds
-pub record TellsPast (start : ℕ) (P Q : ℕ → Type 0) (row : List Bool) : Type 0 where
-  pub there : (j : ℕ) → start < j → j < length row → P j → IsTrue (get_or row j false)
-  pub back : (j : ℕ) → start < j → j < length row → IsTrue (get_or row j false) → Q j
+pub by_next : (w : Work) (k : ℕ) (xs ys : List ℤ) (bound : ℤ) (i j : ℕ) → j ≡ i + 1 → AllowedBy w k xs ys bound i j
+by_next w k xs ys bound i j e = inl e
 
-cleared_from : (row : List Bool) (last j : ℕ) → last + 1 ≡ length row → last ≤ j → get_or (set row last false) j false ≡ false
-cleared_from row last j size up =
-    elim (cases_lt last j) [
-      | inl over ↦ get_or_past (set row last false) j false (omega (arith, length-set row last false))
-      | inr under ↦ let same : last ≡ j = omega arith in subst (λ (n : ℕ). get_or (set row last false) n false ≡ false) same
-          (get_or-set_same row last false false (omega arith))
-    ]
+pub not_by_double : (w : Work) (k : ℕ) (xs ys : List ℤ) (bound : ℤ) (i j : ℕ) → ¬ (j ≡ i + 1) → HasDoubleEdge w.chains k i j
+    → ¬ (AllowedBy w k xs ys bound i j)
+not_by_double w k xs ys bound i j apart double allowed = elim allowed [ inl e ↦ apart e | inr h ↦ h.0.1 double ]
 
--- the last place is cleared, of which the new property does not hold
-pub tells_but_last : (start last : ℕ) (P Q P' Q' : ℕ → Type 0) (row : List Bool) → last + 1 ≡ length row
-    → ((j : ℕ) → start < j → j < last → P' j → P j) → ((j : ℕ) → start < j → j < last → Q j → Q' j) → ¬ (P' last) → TellsPast start P Q row
-    → TellsPast start P' Q' (set row last false)
-tells_but_last start last P Q P' Q' row size to back none tells =
-    let stays : (j : ℕ) → j < last → get_or (set row last false) j false ≡ get_or row j false =
-    (λ j below. get_or-set_other row last j false false (omega arith)) in
-    let count = length-set row last false in
-    record {
-      there = λ j past within holds.
-          elim (cases_lt j last) [
-            | inl below ↦ subst (λ (b : Bool). IsTrue b) (sym (stays j below))
-                (tells.there j past (omega (arith, within, count)) (to j past below holds))
-            | inr up ↦ let same : j ≡ last = omega (arith, within, count) in absurd (none (subst P' same holds))
-          ];
-      back = λ j past within told.
-          elim (cases_lt j last) [
-            | inl below ↦ back j past below (tells.back j past (omega (arith, within, count))
-                (subst (λ (b : Bool). IsTrue b) (stays j below) told))
-            | inr up ↦ absurd (never_true (get_or (set row last false) j false) (cleared_from row last j size up) told)
-          ];
-    }
+pub not_by_far : (w : Work) (k : ℕ) (xs ys : List ℤ) (bound : ℤ) (i j : ℕ) → ¬ (j ≡ i + 1) → ¬ (IsNearRun xs ys bound i j)
+    → ¬ (AllowedBy w k xs ys bound i j)
+not_by_far w k xs ys bound i j apart far allowed = elim allowed [ inl e ↦ apart e | inr h ↦ far h.1 ]
 
--- ---- the open pairs of a start
+-- the last vertex of a chain that is ready
+last_ready : (w : Work) (k : ℕ) (b : Flanks) (weights : Scales) (bound : ℤ) (xs ys : List ℤ) → IsReady w k b weights bound xs ys
+    → length xs ≡ length (chain_at w.chains k).rest + 1
+last_ready w k b weights bound xs ys ready = omega (arith, ready.weighed.count, length-chain_places (chain_at w.chains k))
 
--- where the pair is near, with weights and a bound of which the reach is held, it has the property
-abbrev pub WhereNear : List Chain → List Place → ℕ → ℕ → Flanks → (ℕ → Type 0) → ℕ → Type 0
-WhereNear chains points k start b P j = (weights : Scales) (bound : ℤ) → HoldsReach chains points k weights bound b
-    → IsNearPair weights bound (chain_at chains k) start j → P j
+-- the test of a chain that is ready
+pub double_ready : (w : Work) (k : ℕ) (b : Flanks) (weights : Scales) (bound : ℤ) (xs ys : List ℤ) (i j : ℕ) (t d : Bool)
+    → IsReady w k b weights bound xs ys → i < j → j < length xs → (IsTrue d ↔ IsDoubled w.chains k)
+    → (IsTrue t ↔ (IsTrue d × (i ≡ 0) × (j ≡ length xs - 1))) → IsTrue t ↔ HasDoubleEdge w.chains k i j
+double_ready w k b weights bound xs ys i j t d ready ij within twin test =
+    let count = last_ready w k b weights bound xs ys ready in
+    let last : length xs - 1 ≡ length (chain_at w.chains k).rest = omega arith in
+    double_told w.chains w.read.points k i j t d ready.chains ready.clear ij (omega arith) twin
+    (subst (λ (n : ℕ). IsTrue t ↔ (IsTrue d × (i ≡ 0) × (j ≡ n))) last test)
 
--- the row tells of the pairs of the start
-abbrev pub TellsPairs : List Chain → List Place → ℕ → ℕ → Flanks → (ℕ → Type 0) → List Bool → Type 0
-TellsPairs chains points k start b P row = TellsPast start P (WhereNear chains points k start b P) row
-
--- where no pair of the start has a double edge
-pub opens_single : (chains : List Chain) (points : List Place) (k start : ℕ) (b : Flanks) (row : List Bool)
-    → ((j : ℕ) → start < j → j < length row → ¬ (HasDoubleEdge chains k start j))
-    → TellsPairs chains points k start b (IsConsistentPair chains points k start) row
-    → TellsPairs chains points k start b (IsOpenPair chains points k start) row
-opens_single chains points k start b row single tells = record {
-  there = λ j past within is_open. tells.there j past within is_open.0;
-  back = λ j past within told weights bound holds near. (tells.back j past within told weights bound holds near, single j past within);
-}
-
--- where another chain is an edge between the ends of the chain, which is the pair of the first vertex and the last
-pub opens_but_last : (chains : List Chain) (points : List Place) (k start last : ℕ) (b : Flanks) (row : List Bool) → AreChains chains
-    → IsClearIn chains points k → start ≡ 0 → IsDoubled chains k → last ≡ length (chain_at chains k).rest → last + 1 ≡ length row
-    → TellsPairs chains points k start b (IsConsistentPair chains points k start) row
-    → TellsPairs chains points k start b (IsOpenPair chains points k start) (set row last false)
-opens_but_last chains points k start last b row are clear first twin at_end size =
-    let double : HasDoubleEdge chains k start last = subst (λ (n : ℕ). HasDoubleEdge chains k n last) (sym first)
-    (subst (λ (n : ℕ). HasDoubleEdge chains k 0 n) (sym at_end) (double_edge chains k twin)) in
-    let single : (j : ℕ) → start < j → j < last → ¬ (HasDoubleEdge chains k start j) =
-    (λ j past below pair. let ends = only_at_ends chains points k start j are clear past (omega arith) pair in
-    absurd (omega (arith, ends.1))) in
-    tells_but_last start last (IsConsistentPair chains points k start)
-    (WhereNear chains points k start b (IsConsistentPair chains points k start)) (IsOpenPair chains points k start)
-    (WhereNear chains points k start b (IsOpenPair chains points k start)) row size
-    (λ j past below is_open. is_open.0)
-    (λ j past below pair weights bound holds near. (pair weights bound holds near, single j past below))
-    (λ is_open. is_open.1 double)
+-- a near pair without a double edge, of which it is told whether it is consistent
+pub by_sides : (w : Work) (k : ℕ) (b : Flanks) (weights : Scales) (bound : ℤ) (xs ys : List ℤ) (i j : ℕ) (P : Type 0)
+    → IsReady w k b weights bound xs ys → i < j → j < length xs → ¬ (j ≡ i + 1) → ¬ (HasDoubleEdge w.chains k i j)
+    → IsNearRun xs ys bound i j → (IsConsistentPair w.chains w.read.points k i j → P)
+    → ((scales : Scales) (e : ℤ) → HoldsReach w.chains w.read.points k scales e b → P → IsNearPair scales e (chain_at w.chains k) i j
+    → IsConsistentPair w.chains w.read.points k i j) → P ↔ AllowedBy w k xs ys bound i j
+by_sides w k b weights bound xs ys i j P ready ij within apart single near told back =
+    let count = last_ready w k b weights bound xs ys ready in
+    let here = (near_run weights (chain_at w.chains k) xs ys bound i j ready.weighed ij (omega arith)).1 near in (
+      λ t. inr ((back weights bound ready.reach t here, single), near),
+      λ allowed. elim allowed [ inl e ↦ absurd (apart e) | inr h ↦ told h.0.0 ],
+    )

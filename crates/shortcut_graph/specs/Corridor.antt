@@ -1,5 +1,5 @@
--- The ways from a vertex of a chain that keep within the bound of each vertex after it.
-use Rattle.std.specs.Prelude.{◌≡◌, Bool, true, false, ℕ, ◌+◌, ℤ, pos, ◌-ℤ◌, ◌≤ℤ◌, ◌<ℤ◌, List}
+-- The ways from a vertex of a chain that keep within the bound of vertices before it.
+use Rattle.std.specs.Prelude.{◌≡◌, Bool, true, false, ℕ, ℤ, pos, ◌-ℤ◌, ◌≤ℤ◌, ◌<ℤ◌, List}
 use Rattle.grid_exact.specs.Geometry.{Place, turned, area_of, IsWithin}
 use Rattle.grid_exact.specs.declared.frame.Direction.{Direction}
 use Rattle.grid_exact.specs.declared.frame.Frame.{Frame}
@@ -48,9 +48,9 @@ pub record KeepsTo (c : Corridor) (v : Place) : Type 0 where
   pub below : pos 0 ≤ℤ area_of c.origin v c.ceiling.place
   pub above : pos 0 ≤ℤ area_of c.origin c.floor.place v
 
--- the corridor from the vertex i stands for the vertices after it and before the vertex j: a way that keeps to it is within the
+-- the corridor from the vertex j stands for the vertices from the number `first` to before j: a way that keeps to it is within the
 -- bound of each
-pub record IsCorridor (c : Corridor) (xs ys : List ℤ) (bound : ℤ) (i j : ℕ) : Type 0 where
-  pub origin : c.origin ≡ seen_along c.direction (place_at xs ys i)
+pub record IsCorridor (c : Corridor) (xs ys : List ℤ) (bound : ℤ) (first j : ℕ) : Type 0 where
+  pub origin : c.origin ≡ seen_along c.direction (place_at xs ys j)
   pub past : c.is_passable ≡ true → IsPastOrigin c
-  pub near : (v : Place) → KeepsTo c (seen_along c.direction v) → EachBetween (i + 1) j (λ p. IsWithin (place_at xs ys i) v p bound) xs ys
+  pub near : (v : Place) → KeepsTo c (seen_along c.direction v) → EachBetween first j (λ p. IsWithin (place_at xs ys j) v p bound) xs ys

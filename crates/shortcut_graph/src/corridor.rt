@@ -1,4 +1,4 @@
-//! The ways from a vertex of a chain that keep within the bound of each vertex after it.
+//! The ways from a vertex of a chain that keep within the bound of vertices before it.
 //!
 //! At each vertex that it passes, such a way is at most the bound above or below it. Of all these
 //! limits only the lowest from above and the highest from below are kept, so that one vertex more,
@@ -80,18 +80,18 @@ fn look(direction: Direction, place: Point) -> Point
     }
 }
 
-/// The direction of a chain: the axis along which it gets on farther, and whether it rises or falls
-/// there. A corridor is right along any direction, but lets more ways along this one.
-pub(crate) fn direction_of(ruler: &Ruler<'_>) -> Direction {
+/// The direction back along a chain: the axis along which it gets on farther, and against the way
+/// that it runs there. A corridor is right along any direction, but lets more ways along this one.
+pub(crate) fn direction_back(ruler: &Ruler<'_>) -> Direction {
     if progress(ruler.xs) < progress(ruler.ys) {
         Direction {
             frame: Frame::Turned,
-            rising: is_rising(ruler.ys),
+            rising: !is_rising(ruler.ys),
         }
     } else {
         Direction {
             frame: Frame::Plain,
-            rising: is_rising(ruler.xs),
+            rising: !is_rising(ruler.xs),
         }
     }
 }
@@ -192,8 +192,7 @@ impl Corridor {
     pub(crate) fn start(ruler: &Ruler<'_>, direction: Direction, start: usize) -> Corridor
         requires coordinates { AreCoordinates ruler.now.xs.now ruler.now.ys.now }
         requires in_lists { start < length ruler.now.xs.now }
-        ensures { IsCorridor result ruler.now.xs.now ruler.now.ys.now ruler.now.bound start
-            (start + 1) }
+        ensures { IsCorridor result ruler.now.xs.now ruler.now.ys.now ruler.now.bound start start }
     {
         let from = point_at(ruler.xs, ruler.ys, start);
         Corridor::wide(direction, look(direction, from), start)
@@ -252,15 +251,15 @@ impl Corridor {
         }
     }
 
-    /// Takes one vertex more, the next after those taken so far. Where no way is left, nothing is
+    /// Takes one vertex more, the one before those taken so far. Where no way is left, nothing is
     /// taken any more.
     pub(crate) fn take(&mut self, ruler: &Ruler<'_>, vertex: usize)
         requires coordinates { AreCoordinates ruler.now.xs.now ruler.now.ys.now }
         requires in_lists { vertex < length ruler.now.xs.now }
         requires past { self.old.is_passable ≡ true → IsPastOrigin self.old }
-        ensures { (i : ℕ) → IsCorridor self.old ruler.now.xs.now ruler.now.ys.now ruler.now.bound i
-            vertex → IsCorridor self.new ruler.now.xs.now ruler.now.ys.now ruler.now.bound i
-            (vertex + 1) }
+        ensures { (j : ℕ) → IsCorridor self.old ruler.now.xs.now ruler.now.ys.now ruler.now.bound
+            (vertex + 1) j
+            → IsCorridor self.new ruler.now.xs.now ruler.now.ys.now ruler.now.bound vertex j }
     {
         if !self.is_passable {
             return;

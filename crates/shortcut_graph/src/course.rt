@@ -16,7 +16,7 @@ use map_index::IndexedMap;
 /// How the weighted vertices of a chain run: in this direction throughout.
 #[derive(Clone, Copy)]
 pub(crate) struct Course {
-    direction: Direction,
+    pub(crate) direction: Direction,
 }
 
 impl Course {

@@ -1,11 +1,8 @@
 //! How near the vertices of a chain are to a segment between two of them.
-ghost use Rattle.std.specs.Prelude.{◌≡◌, ◌↔◌, ◌+◌, ◌<◌, IsTrue, length};
+ghost use Rattle.std.specs.Prelude.{◌↔◌, ◌<◌, IsTrue, length};
 ghost use Rattle.lane_kernels.specs.Places.{AreCoordinates};
-ghost use Rattle.shortcut_graph.specs.Corridor.{IsCorridor};
-ghost use Rattle.shortcut_graph.specs.Weighed.{IsFarBetween, IsNearRun};
+ghost use Rattle.shortcut_graph.specs.Weighed.{IsFarBetween};
 
-use crate::corridor::Corridor;
-use error_band::near_run;
 use grid_exact::{Bound, Weights, within};
 use lane_kernels::point_at;
 
@@ -23,36 +20,23 @@ pub struct Ruler<'a> {
     pub weights: Weights,
 }
 
-// Whether each vertex strictly between i and j is within the bound of the segment between these
-// two. The corridor from i stands for the vertices between. Where it is left, the vertex that it
-// names is nearly always too far, so this one is looked at first.
-pub(crate) fn is_near(ruler: &Ruler<'_>, i: usize, j: usize, corridor: &Corridor) -> bool
+// A vertex strictly between i and j that is not within the bound of the segment between these two,
+// where there is one; else any.
+pub(crate) fn culprit_between(ruler: &Ruler<'_>, i: usize, j: usize) -> usize
     requires coordinates { AreCoordinates ruler.now.xs.now ruler.now.ys.now }
-    requires forwards { i < j }
     requires in_lists { j < length ruler.now.xs.now }
-    requires corridor { IsCorridor corridor.now ruler.now.xs.now ruler.now.ys.now ruler.now.bound i
-        j }
-    ensures { IsTrue result ↔ IsNearRun ruler.now.xs.now ruler.now.ys.now ruler.now.bound i j }
 {
-    match corridor.culprit(point_at(ruler.xs, ruler.ys, j)) {
-        None => true,
-        Some(culprit) => is_near_with(ruler, i, j, culprit),
+    for k in i..j {
+        if is_far(ruler, i, j, k) {
+            return k;
+        }
     }
-}
-
-// The same, by the vertex `culprit` and then all others.
-fn is_near_with(ruler: &Ruler<'_>, i: usize, j: usize, culprit: usize) -> bool
-    requires coordinates { AreCoordinates ruler.now.xs.now ruler.now.ys.now }
-    requires forwards { i < j }
-    requires in_lists { j < length ruler.now.xs.now }
-    ensures { IsTrue result ↔ IsNearRun ruler.now.xs.now ruler.now.ys.now ruler.now.bound i j }
-{
-    !is_far(ruler, i, j, culprit) && near_run(ruler.xs, ruler.ys, i, j, ruler.bound)
+    i
 }
 
 // Whether the vertex k is strictly between i and j and not within the bound of the segment between
 // these two.
-fn is_far(ruler: &Ruler<'_>, i: usize, j: usize, k: usize) -> bool
+pub(crate) fn is_far(ruler: &Ruler<'_>, i: usize, j: usize, k: usize) -> bool
     requires coordinates { AreCoordinates ruler.now.xs.now ruler.now.ys.now }
     requires in_lists { j < length ruler.now.xs.now }
     ensures { IsTrue result ↔ IsFarBetween ruler.now.xs.now ruler.now.ys.now ruler.now.bound i j k }

@@ -13,3 +13,4 @@ pub mod RunsOf
 pub mod ClearOf
 pub mod ByEdges
 pub mod Exact
+pub mod Pairs

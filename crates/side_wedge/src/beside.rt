@@ -3,6 +3,7 @@ ghost use Rattle.std.specs.Prelude.{◌≡◌, ◌↔◌, ◌+◌, ◌-◌, ◌*
 ghost use Rattle.std.specs.Prelude.{IsTrue, length, slice_index_or};
 ghost use Rattle.grid_exact.specs.Geometry.{Place};
 ghost use Rattle.chain_side.specs.Along.{IsAlong, vertex_at};
+ghost use Rattle.lane_kernels.specs.Hands.{IsOnSide};
 ghost use Rattle.lane_kernels.specs.declared.side.Hand.{Hand};
 ghost use Rattle.arc_map.specs.Chains.{chain_at, IsClearIn};
 ghost use Rattle.map_index.specs.IndexedMap.{items_in};
@@ -10,7 +11,7 @@ ghost use Rattle.side_wedge.specs.Obstacles.{IsConsistentPair};
 ghost use Rattle.grid_exact.specs.Weights.{Scales};
 ghost use Rattle.side_wedge.specs.Flanks.{HoldsReach, IsBeside, IsNearPair, StandsInRow};
 ghost use Rattle.side_wedge.specs.Flanks.{KeepsSides, row_of};
-ghost use Rattle.side_wedge.specs.Rows.{IsRow, KeepsAll};
+ghost use Rattle.side_wedge.specs.Rows.{IsRow, KeepsAll, KeepsEdges};
 ghost use Rattle.side_wedge.specs.Strays.{RunsAlong};
 ghost use Rattle.side_wedge.specs.Wedge.{Lets, StartsAt, IsPast};
 
@@ -20,7 +21,7 @@ use crate::wedge::Wedge;
 use arc_map::NoMemory;
 use chain_reach::Steps;
 use grid_exact::{Bound, Direction, Frame, MAX_CHAIN_EDGES, Point, Weights};
-use lane_kernels::Hand;
+use lane_kernels::{Hand, first_off_side};
 use map_index::IndexedMap;
 use std::alloc::Global;
 use std::marker::Model;
@@ -124,6 +125,73 @@ impl Beside {
             let frame = self.frame();
             let rising = rises(chain, frame);
             self.write_row(chain, Direction { frame, rising }, i, row);
+        }
+    }
+
+    /// Tells of the pair (i, j) of vertices of chain number `k` whether nothing changes sides where
+    /// the chain from i to j becomes a straight edge. A consistent pair is told true. One that is
+    /// told true is consistent where the skipped vertices are within a bound whose reach was
+    /// loaded.
+    pub fn is_consistent(&self, map: &IndexedMap, k: u32, i: usize, j: usize) -> bool
+        requires chain { k < length map.now.chains }
+        requires clear { IsClearIn map.now.chains map.now.read.points k }
+        requires beside { IsBeside map.now.chains map.now.read.points k self.now }
+        requires order { i < j }
+        requires within { j ≤ length (chain_at map.now.chains k).rest }
+        ensures consistent { IsConsistentPair map.now.chains map.now.read.points k i j
+            → IsTrue result }
+        ensures near { (weights : Scales) (bound : ℤ)
+            → HoldsReach map.now.chains map.now.read.points k weights bound self.now
+            → IsTrue result → IsNearPair weights bound (chain_at map.now.chains k) i j
+            → IsConsistentPair map.now.chains map.now.read.points k i j }
+    {
+        let chain = map.chain(k);
+        self.keeps_all(i, j, chain[i], chain[j])
+    }
+
+    // Whether what stands beside the edges from the number i to before the number j keeps its hand
+    // of the way from a to v. Edges after the last with something beside them are not looked at.
+    fn keeps_all(&self, i: usize, j: usize, a: Point, v: Point) -> bool
+        requires order { i < j }
+        requires few { j < 1024 }
+        requires rows { 2 * j < length self.now.starts }
+        ensures { IsTrue result ↔ KeepsEdges self.now i j a v }
+    {
+        let end = self.starts[2 * j];
+        let mut edge = i;
+        while self.starts[2 * edge] < end {
+            if !self.keeps_edge(edge, a, v) {
+                return false;
+            }
+            edge += 1;
+        }
+        true
+    }
+
+    // Whether what stands beside the edge keeps its hand of the way from a to v.
+    fn keeps_edge(&self, edge: usize, a: Point, v: Point) -> bool
+        requires few { edge < 1024 }
+        requires rows { 2 * edge + 2 < length self.now.starts }
+        ensures { IsTrue result ↔ KeepsSides self.now edge a v }
+    {
+        if self.starts[2 * edge] == self.starts[2 * edge + 2] {
+            return true;
+        }
+        if !self.keeps_row(2 * edge, Hand::Left, a, v) {
+            return false;
+        }
+        self.keeps_row(2 * edge + 1, Hand::Right, a, v)
+    }
+
+    // Whether what stands in the row is on this hand of the way from a to v.
+    fn keeps_row(&self, row: usize, hand: Hand, a: Point, v: Point) -> bool
+        requires { row + 1 < length self.now.starts }
+        ensures { IsTrue result ↔ ((p : Place) → StandsInRow self.now row p → IsOnSide hand a v p) }
+    {
+        let (xs, ys) = self.row(row);
+        match first_off_side(a, v, xs, ys, hand) {
+            None => true,
+            Some(_) => false,
         }
     }
 

@@ -9,10 +9,10 @@ use crate::parts::point;
 use arc_map::ArcMap;
 use arrangement_check::check;
 use grid_exact::{Bound, Point, Weights};
-use layer_paths::Rows;
+use layer_paths::Layering;
 use map_index::IndexedMap;
 use monotone_split::split;
-use shortcut_graph::{Ruler, fill};
+use shortcut_graph::{Ruler, lay};
 use side_wedge::Beside;
 use std::alloc::{AllocError, Global};
 use std::process::Abort;
@@ -57,7 +57,7 @@ fn up(alloc: Global, places: &[Point]) -> Result<Vec<i64>, AllocError>
     Ok(ys)
 }
 
-// Whether the pair of the first and the third vertex of the second chain is allowed at bound 5.
+// Whether one step leads over the three vertices of the second chain at bound 5.
 fn is_allowed(alloc: Global, map: &IndexedMap) -> Result<bool, Fail>
     requires chain { 1 < length map.now.chains }
     requires clear { IsClearIn map.now.chains map.now.read.points 1 }
@@ -65,7 +65,7 @@ fn is_allowed(alloc: Global, map: &IndexedMap) -> Result<bool, Fail>
     let Ok(mut beside) = Beside::with_room(alloc, map.item_count()) else {
         return Err(Fail::from("memory"));
     };
-    let Ok(mut rows) = Rows::new(alloc) else {
+    let Ok(mut layering) = Layering::new(alloc) else {
         return Err(Fail::from("memory"));
     };
     let Some(weights) = Weights::new(1, 1) else {
@@ -82,9 +82,8 @@ fn is_allowed(alloc: Global, map: &IndexedMap) -> Result<bool, Fail>
         bound,
         weights,
     };
-    let mut row = vec![in alloc; false; places.len()]?;
-    fill(&mut rows, map, 1, &beside, &ruler, &mut row);
-    Ok(rows.get(0, 2))
+    lay(&mut layering, map, 1, &beside, &ruler);
+    Ok(matches!(layering.layers(), [1, ..]))
 }
 
 // Whether the arc may be cut short, beside an edge of this height and a feature point at (2, town).

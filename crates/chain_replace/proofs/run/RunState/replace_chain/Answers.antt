@@ -7,7 +7,7 @@ use Rattle.arc_map.specs.Chains.{chain_at}
 use Rattle.arc_map.specs.Records.{Record, Records, pushed}
 use Rattle.arc_map.specs.Work.{Work, thinned_work}
 use Rattle.arc_map.specs.declared.refs.ChainRef.{ChainRef}
-use Rattle.chain_replace.specs.Finder.{Found}
+use Rattle.chain_replace.specs.Finder.{Found, layers_in}
 use Rattle.chain_replace.specs.Laws.{KeepsFaces}
 use Rattle.chain_replace.specs.Run.{IsAllowedIn, last_of, IsRecordOf, IsChainHeld, Progress, IsStep, map_so_far}
 use Rattle.chain_replace.specs.UnderWay.{progress_of, IsUnderWay}
@@ -42,7 +42,7 @@ free_here s r b place told no_one held = false≢true (sym no_one
 -- what was found is the record of the next chain
 found_here : (s : Inside) (r : ChainRef) (found : Found) (kept layers : List ℕ) → NextIs (progress_of s) r
     → IsBestPath (IsAllowedIn s.terms s.map s.next) (last_of s.map s.next) found.path
-    → AreLayers (IsAllowedIn s.terms s.map s.next) (last_of s.map s.next) found.layers → kept ≡ found.path → layers ≡ found.layers
+    → AreLayers (IsAllowedIn s.terms s.map s.next) (last_of s.map s.next) (layers_in found) → kept ≡ found.path → layers ≡ (layers_in found)
     → IsRecordOf (progress_of s).terms s.map s.next (record { arc = r.arc; «from» = r.«from»; kept = kept; layers = layers })
 found_here s r found kept layers place best known is_path are_layers = record {
   arc = place.arc;

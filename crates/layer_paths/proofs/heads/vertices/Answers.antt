@@ -1,0 +1,5 @@
+-- The list is filled.
+use Rattle.layer_paths.proofs.heads.vertices.Goals as goal
+
+pub returns-in-Ok : goal.returns-in-Ok
+returns-in-Ok c = c.in-Ok.ensures.items_if_clones_equal (λ y same. same)
