@@ -1,6 +1,6 @@
-//! Each public call of the crates that fill the graph of shortcuts, replace chains, write certificates
-//! and judge them, once, on maps of few positions. The tests of those crates stand here together: a
-//! crate with tests of its own is proved twice.
+//! Each public call of the crates that lay the layers of chains, replace chains, write certificates
+//! and judge them, once, on maps of few positions. The tests of those crates stand here together:
+//! a crate with tests of its own is proved twice.
 #![tactic(auto)]
 
 mod maps;
