@@ -29,7 +29,7 @@ use Rattle.top_call.specs.Answers.{IsCheckAnswer, RefusedFile, Told, IsChecked, 
 use Rattle.top_call.specs.Answers.{IsBorderRefusal, IsDissolved, IsRanked, IsWorkAnswer, IsFormAnswer, NotHeld, TooLong, Worked, IsAnswerBy}
 use Rattle.top_call.specs.Laws.{AnswerIsOne}
 use Rattle.top_call.proofs.Borders.{border_refusal_is_one, dissolved_is_one, dissolved_not_refused}
-use Rattle.top_call.proofs.Building.{built_of_is_one, geo_not_refused, geo_refusal_is_one}
+use Rattle.top_call.proofs.BuiltTexts.{built_of_is_one, geo_not_refused, geo_refusal_is_one}
 use Rattle.top_call.proofs.NotRefused.{loaded_not_refused}
 use Rattle.top_call.proofs.OneLoading.{loaded_is_one}
 use Rattle.top_call.proofs.OneRefusal.{refusal_is_one}

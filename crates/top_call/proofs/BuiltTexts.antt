@@ -1,7 +1,8 @@
 -- What is built of GeoJSON: the one answer, and what was refused.
-use Rattle.std.proofs.Common.{◌≡◌, ◌∙◌, ℕ, ℤ, List, Result, Ok, Err, sym, ap, refl, subst, inl, inr}
+use Rattle.std.proofs.Common.{◌≡◌, ◌↔◌, ◌∙◌, ◌≤◌, ℕ, ℤ, List, [], Result, Ok, Err, sym, ap, refl, subst, inl, inr}
 use Rattle.std.specs.Prelude.{◌⊎◌}
 use Rattle.std.specs.List.{AllZip}
+use Rattle.arc_map.specs.Arcs.{IsMapArrangedBeside}
 use Rattle.arc_map.specs.Map.{Map, IsMap}
 use Rattle.json_scan.proofs.Refusals.{same-refusal, not_refused}
 use Rattle.json_scan.specs.Places.{IsRefusedFor}
@@ -19,7 +20,7 @@ use Rattle.geo_reader.specs.declared.fault.GeoFault.TheVariants as faults
 use Rattle.geo_text.specs.BuiltText.{built_text_of}
 use Rattle.geo_text.proofs.TopologyWritten.{built-reads}
 use Rattle.topo_build.specs.Built.{IsBuilt, rings_of, geo_turns}
-use Rattle.topo_build.specs.Clean.{HasEachEdgeOnce}
+use Rattle.topo_build.specs.Clean.{AreClean, HasEachEdgeOnce}
 use Rattle.topo_build.specs.References.{IsPutTogether}
 use Rattle.top_call.specs.declared.status.Status.{Status}
 use Rattle.top_call.specs.declared.status.Status.TheVariants.{NoMemory}
@@ -97,6 +98,7 @@ pub record IsTopology (geo : Geo) (map : Map) (rings : List (List ℤ)) : Type 0
   pub is_map : IsMap map
   pub together : AllZip (IsPutTogether map.arcs) (rings_of geo) rings
   pub edges : HasEachEdgeOnce (geo_turns geo) map.arcs
+  pub arranged : IsMapArrangedBeside [] map ↔ AreClean (geo_turns geo) geo.points
 
 reads_back : (text : List ℕ) (tree : Tree) (geo : Geo) (map : Map) (rings : List (List ℤ)) → (has : HasTree text tree)
     → geojson_of tree ≡ Ok geo → IsTopology geo map rings → value_depth has.document.value ≤ 60
@@ -123,6 +125,7 @@ built_by text bytes input tree geo map rings has_tree reads is is_text written =
       is_map = is.is_map;
       together = is.together;
       edges = is.edges;
+      arranged = is.arranged;
       written = out;
       reads = λ shallow. subst (λ (xs : List ℕ). ReadsAs xs map) (sym out) (reads_back text tree geo map rings has_tree reads is shallow);
     }

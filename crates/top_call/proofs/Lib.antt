@@ -27,7 +27,7 @@ pub mod NotRefused
 pub mod RefusalKinds
 pub mod OneReference
 pub mod OneBuilt
-pub mod Building
+pub mod BuiltTexts
 pub mod Faithful
 pub mod Promised
 pub mod OneAnswer

@@ -8,7 +8,7 @@ use Rattle.top_call.specs.Answers.{IsCertified}
 use Rattle.top_call.specs.Laws.{CheckAnswersYes}
 use Rattle.top_call.specs.Endings.{IsMapStatus}
 use Rattle.top_call.proofs.NotRefused.{loaded_not_refused}
-use Rattle.top_call.proofs.Promised.{refusal_kind}
+use Rattle.top_call.proofs.RefusalKinds.{refusal_kind}
 use Rattle.top_call.proofs.OnlyYes.{simplified_checks_yes}
 
 -- what was put out is what a form writes

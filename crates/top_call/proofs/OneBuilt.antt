@@ -1,5 +1,6 @@
 -- What is built of rings is one map, with one list of references for each ring.
-use Rattle.std.proofs.Common.{◌≡◌, ◌≢◌, ◌∙◌, ℕ, zero, suc, ◌+◌, ◌<◌, ℤ, pos, negsuc, List, [], ◌∷◌, ◌++◌, All, get_or, length, map, take}
+use Rattle.std.proofs.Common.{◌≡◌, ◌≢◌, ◌∙◌, ℕ, zero, suc, ◌+◌, ◌<◌, ◌≤◌, ℤ, pos, negsuc, List, [], ◌∷◌, ◌++◌, All, get_or, length, map}
+use Rattle.std.proofs.Common.{take}
 use Rattle.std.proofs.Common.{drop}
 use Rattle.std.proofs.Common.{append_assoc, refl, ap, sym, subst, inl, inr, arith, add-one}
 use Rattle.std.proofs.lemmas.Bool.{cases_order}
@@ -64,9 +65,9 @@ rings_grow J (ring ∷ rings) arcs (rs ∷ rest) after are =
 -- ---- sound arcs
 
 -- each edge stands once, and no two neighbours are equal
-pub record AreSound (arcs : List (List Place)) : Type 0 where
-  pub once : EachTwo Apart (edges_of_arcs 0 arcs)
-  pub arcs : All IsArc arcs
+pub record AreSound (lists : List (List Place)) : Type 0 where
+  pub once : EachTwo Apart (edges_of_arcs 0 lists)
+  pub arcs : All IsArc lists
 
 edges_split : (n : ℕ) (xs ys : List (List Place)) → (later : List Edge) × (edges_of_arcs n (xs ++ ys) ≡ edges_of_arcs n xs ++ later)
 edges_split n [] ys = (edges_of_arcs n ys, refl)
@@ -91,7 +92,7 @@ sound_before arcs after grows sound =
 
 walk_apart : (a b : Place) (arcs : List (List Place)) (r : ℤ) → arc_of r < length arcs → All IsArc arcs → HasNext a b (walk_of arcs r)
     → a ≢ b
-walk_apart a b arcs (pos k) within are h = differ a b (get_or arcs k []) (All-get_or IsArc arcs k [] within are) h
+walk_apart a b arcs (pos k) within are h same = differ a b (get_or arcs k []) (All-get_or IsArc arcs k [] within are) h same
 walk_apart a b arcs (negsuc k) within are h same =
     differ b a (get_or arcs k []) (All-get_or IsArc arcs k [] within are) (turned a b (get_or arcs k []) h) (sym same)
 
@@ -116,7 +117,7 @@ round_has : (c d : Place) (cs : List Place) (at : ℕ) → HasNext c d (closed_f
 round_has c d cs zero = inl (refl, refl)
 round_has c d cs (suc k) =
     let ring = c ∷ d ∷ cs in
-    let is : take (suc k + 1) ring ≡ c ∷ d ∷ take k cs = ap (λ (n : ℕ). take n ring) (omega {a = suc k + 1} arith) in
+    let is : take (suc k + 1) ring ≡ c ∷ d ∷ take k cs = ap (λ (n : ℕ). take n ring) (add-one (suc k)) in
     subst (λ (xs : List Place). HasNext c d (drop (suc k) ring ++ xs)) (sym is) (join c d (drop (suc k) ring) (take k cs))
 
 round_one : (ring : List Place) (arcs : List (List Place)) (r s : ℤ) → AreSound arcs → 1 < length ring → IsEarlier (IsRound ring) arcs r

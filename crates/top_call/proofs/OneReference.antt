@@ -1,7 +1,6 @@
 -- Where each edge stands once in the arcs, an edge has one reference: that of its arc, in its direction.
 use Rattle.std.proofs.Common.{◌≡◌, ◌≢◌, ◌∙◌, ℕ, zero, suc, ◌<◌, ℤ, pos, negsuc, List, [], ◌∷◌, ◌++◌, All, get_or, reverse, append_assoc}
-use Rattle.std.proofs.Common.{refl}
-use Rattle.std.proofs.Common.{ap, sym, subst, inl, inr, arith}
+use Rattle.std.proofs.Common.{true, false, refl, ap, sym, subst, inl, inr, arith}
 use Rattle.std.specs.Prelude.{◌⊎◌}
 use Rattle.std.proofs.lemmas.Bool.{cases_order}
 use Rattle.std.proofs.lemmas.List.{reverse-append, reverse-reverse}
@@ -75,7 +74,7 @@ join a b (p ∷ []) behind = inr (inl (refl, refl))
 join a b (p ∷ q ∷ before) behind = inr (join a b (q ∷ before) behind)
 
 -- what stands backwards in the list
-turned : (a b : Place) (ps : List Place) → HasNext a b (reverse ps) → HasNext b a ps
+pub turned : (a b : Place) (ps : List Place) → HasNext a b (reverse ps) → HasNext b a ps
 turned a b ps h =
     let parts = split a b (reverse ps) h in
     let is : ps ≡ reverse parts.behind ++ b ∷ a ∷ reverse parts.before =
@@ -85,7 +84,7 @@ turned a b ps h =
     subst (HasNext b a) (sym is) (join b a (reverse parts.behind) (reverse parts.before))
 
 -- in an arc the ends of an edge differ
-differ : (a b : Place) (ps : List Place) → IsArc ps → HasNext a b ps → a ≢ b
+pub differ : (a b : Place) (ps : List Place) → IsArc ps → HasNext a b ps → a ≢ b
 differ a b [] arc h same = absurd h
 differ a b (p ∷ []) arc h same = absurd h
 differ a b (p ∷ q ∷ ps) arc (inl h) same = arc.0 (h.0 ∙ same ∙ sym h.1)

@@ -1,5 +1,6 @@
 -- The promises of a run, from its answer.
-use Rattle.std.proofs.Common.{◌≡◌, ◌∙◌, ℕ, Bool, List, [], ◌∷◌, ◌++◌, Option, None, Some, length, ap, refl, sym, subst, inl, inr, arith}
+use Rattle.std.proofs.Common.{◌≡◌, ◌∙◌, ◌≤◌, ℕ, Bool, List, [], ◌∷◌, ◌++◌, Option, None, Some, length, ap, refl, sym, subst, inl, inr}
+use Rattle.std.proofs.Common.{arith}
 use Rattle.std.proofs.lemmas.List.{append_cancel_left}
 use Rattle.std.specs.Prelude.{◌≢◌, ◌⊎◌, IsTrue}
 use Rattle.std.proofs.lemmas.Option.{none-some, same_Some}
@@ -23,7 +24,7 @@ use Rattle.top_call.specs.Endings.{IsMapStatus, IsWritten, IsWorkStatus, Wrote, 
 use Rattle.top_call.specs.Headline.{IsFaithful, Headline, IsReady, HasPolygons, IsGeoReady, CanWork, Completes, IsBorderOf, Borders}
 use Rattle.top_call.specs.Headline.{Levels, Builds, IsMaking, IsMakingStatus, Makes}
 use Rattle.top_call.proofs.Borders.{all_there, known_not_refused, dissolved_is_border}
-use Rattle.top_call.proofs.Building.{geo_kind, geo_not_refused}
+use Rattle.top_call.proofs.BuiltTexts.{geo_kind, geo_not_refused}
 use Rattle.top_call.proofs.Faithful.{simplified_is_faithful}
 use Rattle.top_call.proofs.NotRefused.{loaded_not_refused}
 use Rattle.top_call.proofs.RefusalKinds.{refusal_kind}

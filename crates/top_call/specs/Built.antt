@@ -1,6 +1,7 @@
 -- The topology that is built of a text of GeoJSON, or why the text is refused.
-use Rattle.std.specs.Prelude.{◌≡◌, ◌≤◌, ℕ, ℤ, List, Ok, Err}
+use Rattle.std.specs.Prelude.{◌≡◌, ◌↔◌, ◌≤◌, ℕ, ℤ, List, [], Ok, Err}
 use Rattle.std.specs.List.{AllZip}
+use Rattle.arc_map.specs.Arcs.{IsMapArrangedBeside}
 use Rattle.arc_map.specs.Map.{Map, IsMap}
 use Rattle.json_scan.specs.Grammar.{value_depth}
 use Rattle.json_scan.specs.Places.{IsRefusedFor}
@@ -12,7 +13,7 @@ use Rattle.geo_reader.specs.declared.fault.GeoFault.{GeoFault}
 use Rattle.geo_reader.specs.declared.fault.GeoFault.TheVariants as faults
 use Rattle.topo_writer.specs.Reading.{ReadsAs}
 use Rattle.topo_build.specs.Built.{IsBuilt, rings_of, geo_turns}
-use Rattle.topo_build.specs.Clean.{HasEachEdgeOnce}
+use Rattle.topo_build.specs.Clean.{AreClean, HasEachEdgeOnce}
 use Rattle.topo_build.specs.References.{IsPutTogether}
 use Rattle.geo_text.specs.BuiltText.{built_text_of}
 use Rattle.top_call.specs.declared.status.Limit.TheVariants.{Many}
@@ -53,6 +54,8 @@ pub record IsBuiltOf (text bytes : List ℕ) : Type 0 where
   pub together : AllZip (IsPutTogether map.arcs) (rings_of geo) rings
   -- each two neighbours in a ring are the ends of an edge of exactly one arc, once
   pub edges : HasEachEdgeOnce (geo_turns geo) map.arcs
+  -- the map is arranged exactly where the rings are clean
+  pub arranged : IsMapArrangedBeside [] map ↔ AreClean (geo_turns geo) geo.points
   -- the features are written, with the references in place of the rings, and the arcs
   pub written : bytes ≡ built_text_of text tree rings geo.points map
   -- where the text is no deeper than 60, the bytes read as a topology with the map

@@ -1,7 +1,7 @@
 -- The text is refused, or its topology was built.
 use Rattle.std.proofs.lemmas.Result.{err_from_is_err_and}
 use Rattle.json_scan.specs.Tree.{document_tree}
-use Rattle.top_call.proofs.Building.{scan_refused_geo, geo_refused, built_by}
+use Rattle.top_call.proofs.BuiltTexts.{scan_refused_geo, geo_refused, built_by}
 use Rattle.top_call.proofs.Refusals.{tree_found}
 use Rattle.top_call.proofs.building.built.Goals as goal
 
@@ -26,5 +26,5 @@ returns-clause-written c =
     c.in_ok-topology.topology.map c.in_ok-topology.topology.rings
     (tree_found c.in_ok-scanned.scanned.bytes c.args.text.now c.in_ok-scanned.scanned.nodes c.in_ok-scanned.ensures.text found)
     (c.in_ok-geo.ensures.geo found.1.0 found.1.1)
-    (record { built = is.built; is_map = is.is_map; together = is.together; edges = is.edges })
+    (record { built = is.built; is_map = is.is_map; together = is.together; edges = is.edges; arranged = is.arranged })
     c.in_ok-scanned.ensures.text (c.in_ok-built_text.ensures found.1.0 found.1.1)
