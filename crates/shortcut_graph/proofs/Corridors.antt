@@ -1,5 +1,6 @@
 -- A way between two limits is within the bound of the vertex that they stand for, and the tighter of two limits stands for both.
-use Rattle.std.proofs.Common.{◌≡◌, inl, inr, Bool, true, false, ℕ, ◌+◌, ◌≤◌, List, ℤ, pos, ◌+ℤ◌, ◌-ℤ◌, ◌*ℤ◌, ◌≤ℤ◌, ◌<ℤ◌, refl, sym, ap, subst}
+use Rattle.std.proofs.Common.{◌≡◌, inl, inr, Bool, true, false, ℕ, ◌+◌, ◌≤◌, List, ℤ, pos, ◌+ℤ◌, ◌-ℤ◌, ◌*ℤ◌, ◌≤ℤ◌, ◌<ℤ◌, refl, sym, ap}
+use Rattle.std.proofs.Common.{subst}
 use Rattle.std.proofs.Common.{◌∙◌, arith}
 use Rattle.std.proofs.lemmas.Bool.{cases_lt}
 use Rattle.grid_exact.specs.Geometry.{Place, turned, area_of, square_of, IsWithin}
@@ -204,7 +205,8 @@ both_keep a b d same origin passable other_passable past lower upper reach other
 
 -- ---- one vertex, and one vertex more
 
-pub no_vertex : (c : Corridor) (xs ys : List ℤ) (bound : ℤ) (j : ℕ) (direction : Direction) (o : Place) → c.direction ≡ direction → c.origin ≡ o
+pub no_vertex : (c : Corridor) (xs ys : List ℤ) (bound : ℤ) (j : ℕ) (direction : Direction) (o : Place) → c.direction ≡ direction
+    → c.origin ≡ o
     → o ≡ seen_along direction (place_at xs ys j) → (c.is_passable ≡ true → IsPastOrigin c) → IsCorridor c xs ys bound j j
 no_vertex c xs ys bound j direction o same origin start past =
     record {
@@ -229,7 +231,8 @@ one_more c d xs ys bound i j direction origin past near corridor =
                 let same : i ≡ k = omega arith in
                 let seen : IsWithin (seen_along c.direction (place_at xs ys j)) (seen_along c.direction v)
                 (seen_along c.direction (place_at xs ys i)) bound
-                = subst (λ (o : Place). IsWithin o (seen_along c.direction v) (seen_along c.direction (place_at xs ys i)) bound) corridor.origin
+                = subst (λ (o : Place). IsWithin o (seen_along c.direction v) (seen_along c.direction (place_at xs ys i)) bound)
+                corridor.origin
                 both.1 in
                 subst (λ (n : ℕ). IsWithin (place_at xs ys j) v (place_at xs ys n) bound) same
                 (within_as_seen c.direction (place_at xs ys j) v (place_at xs ys i) bound seen)

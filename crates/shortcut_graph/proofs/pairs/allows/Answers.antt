@@ -22,9 +22,11 @@ returns-then-has_double-clause-allowed c =
 pub returns-then-not-is_near-clause-allowed : goal.returns-then-not-is_near-clause-allowed
 returns-then-not-is_near-clause-allowed c =
     let r = c.args.ruler.now in
-    let far : ¬ (IsNearRun r.xs.now r.ys.now r.bound c.args.start c.args.end) = (λ near. never_true c.is_near.result c.if-not-is_near.true (c.is_near.ensures.near.1 near)) in (
+    let far : ¬ (IsNearRun r.xs.now r.ys.now r.bound c.args.start c.args.end) =
+    (λ near. never_true c.is_near.result c.if-not-is_near.true (c.is_near.ensures.near.1 near)) in (
       λ t. absurd (cc),
-      λ allowed. absurd (not_by_far c.args.map.now c.args.k r.xs.now r.ys.now r.bound c.args.start c.args.end c.if-end-start.false far allowed),
+      λ allowed. absurd (not_by_far c.args.map.now c.args.k r.xs.now r.ys.now r.bound c.args.start c.args.end c.if-end-start.false far
+          allowed),
     )
 
 pub returns-clause-allowed : goal.returns-clause-allowed
