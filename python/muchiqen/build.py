@@ -8,20 +8,35 @@ from dataclasses import dataclass
 
 import numpy as np
 import numpy.typing as npt
+import pandas as pd
 
 from .coverage import Snapped
 from .errors import NotConfirmed
 from .grid import EDGE, Places
-from .topology import Integers, References, Topology, starts_of
+from .topology import Integers, References, Topology, starts_of, within
+
+Flags = npt.NDArray[np.bool_]
 
 
 @dataclass
 class Built:
-    """Arcs, and for each ring the arcs that it goes along."""
+    """Arcs, and for ring r the arcs that it goes along, from ``ring_starts[r]`` on."""
 
     places: Places
     starts: Integers
-    rings: list[References]
+    references: Integers
+    ring_starts: Integers
+
+    @property
+    def rings(self) -> list[References]:
+        """For each ring the arcs that it goes along."""
+        return lists_of(self.references, self.ring_starts)
+
+
+def lists_of(numbers: Integers, starts: Integers) -> list[list[int]]:
+    """Give lists of numbers: list i ends before ``starts[i + 1]``."""
+    flat, cuts = numbers.tolist(), starts.tolist()
+    return [flat[a:b] for a, b in zip(cuts, cuts[1:], strict=False)]
 
 
 def keys_of(places: Places) -> Integers:
@@ -29,103 +44,115 @@ def keys_of(places: Places) -> Integers:
     return np.asarray(((places[:, 0] + EDGE) << 31) | (places[:, 1] + EDGE), dtype=np.int64)
 
 
+def numbers_of(places: Places) -> tuple[Integers, int]:
+    """Give each place the number of its first occurrence among those that differ, and how many."""
+    numbers, found = pd.factorize(keys_of(places))
+    return np.asarray(numbers, dtype=np.int64), len(found)
+
+
 def build(places: Places, starts: Integers) -> Built:
     """Cut rings (cyclic lists of two or more places, no consecutive repeats) into arcs."""
-    keys = keys_of(places)
-    junction = _junctions(keys, starts)
-    cuts = np.flatnonzero(junction)
-    cut_starts = np.searchsorted(cuts, starts)
-    maker = _Maker(keys, starts)
-    for ring in range(len(starts) - 1):
-        inner = cuts[cut_starts[ring] : cut_starts[ring + 1]].tolist()
-        maker.take(ring, inner)
-    arcs, arc_starts = maker.arcs(places)
-    return Built(arcs, arc_starts, maker.rings)
+    if not len(places):
+        none = np.zeros(1, dtype=np.int64)
+        return Built(places, none, np.empty(0, dtype=np.int64), none)
+    numbers, count = numbers_of(places)
+    rings = _Rings(numbers, count, starts)
+    pieces = rings.pieces(rings.junctions())
+    return pieces.arcs(places, rings)
 
 
-def _junctions(keys: Integers, starts: Integers) -> npt.NDArray[np.bool_]:
-    """Tell which positions are at a junction.
+class _Rings:
+    """Rings by numbers of their places."""
 
-    A place is one where an occurrence has equal neighbours, where it comes twice in a ring, or
-    where two occurrences have different pairs of neighbours.
-    """
-    count = len(keys)
-    if not count:
-        return np.zeros(0, dtype=bool)
-    after, before = np.arange(1, count + 1), np.arange(-1, count - 1)
-    after[starts[1:] - 1] = starts[:-1]
-    before[starts[:-1]] = starts[1:] - 1
-    low = np.minimum(keys[after], keys[before])
-    high = np.maximum(keys[after], keys[before])
-    ring = np.repeat(np.arange(len(starts) - 1), np.diff(starts))
-    order = np.argsort(keys, kind="stable")
-    same = np.concatenate(([False], keys[order][1:] == keys[order][:-1]))
-    mark = (low == high)[order]
-    for values in (low[order], high[order]):
-        mark[1:] |= same[1:] & (values[1:] != values[:-1])
-    mark[1:] |= same[1:] & (ring[order][1:] == ring[order][:-1])
-    firsts = np.flatnonzero(~same)
-    found = np.logical_or.reduceat(mark, firsts)
-    junction = np.zeros(count, dtype=bool)
-    junction[order] = np.repeat(found, np.diff(np.append(firsts, count)))
-    return junction
+    def __init__(self, numbers: Integers, count: int, starts: Integers) -> None:
+        self.numbers, self.count, self.starts = numbers, count, starts
+        self.sizes = np.diff(starts)
+        self.ring = np.repeat(np.arange(len(self.sizes)), self.sizes)
+        at = np.arange(len(numbers))
+        self.after, self.before = at + 1, at - 1
+        self.after[starts[1:] - 1] = starts[:-1]
+        self.before[starts[:-1]] = starts[1:] - 1
+
+    def junctions(self) -> Flags:
+        """Tell which positions are at a junction.
+
+        A place is one where an occurrence has equal neighbours, where it comes twice in a ring, or
+        where two occurrences have different pairs of neighbours.
+        """
+        after, before = self.numbers[self.after], self.numbers[self.before]
+        low, high = np.minimum(after, before), np.maximum(after, before)
+        mark = low == high
+        for values in (low, high):
+            some = np.empty(self.count, dtype=np.int64)
+            some[self.numbers] = values
+            mark |= some[self.numbers] != values
+        found = np.zeros(self.count, dtype=bool)
+        found[self.numbers[mark]] = True
+        found[self._twice_in_a_ring(found)] = True
+        return found[self.numbers]
+
+    def _twice_in_a_ring(self, found: Flags) -> Integers:
+        times = np.bincount(self.numbers, minlength=self.count)
+        at = np.flatnonzero(((times > 1) & ~found)[self.numbers])
+        pairs = np.sort(self.numbers[at] * len(self.starts) + self.ring[at])
+        return np.asarray(pairs[1:][pairs[1:] == pairs[:-1]] // len(self.starts))
+
+    def pieces(self, junction: Flags) -> "_Pieces":
+        """Cut the rings at their junctions; a ring without one is one piece from its start."""
+        whole = np.bincount(self.ring[junction], minlength=len(self.sizes)) == 0
+        firsts = junction.copy()
+        firsts[self.starts[:-1][whole]] = True
+        first = np.flatnonzero(firsts)
+        ring = self.ring[first]
+        last = np.append(first[1:], 0)
+        ends = np.flatnonzero(np.append(ring[1:] != ring[:-1], True))
+        begins = np.append(0, ends[:-1] + 1)
+        last[ends] = first[begins] + self.sizes[ring[ends]]
+        heads, tails = self._directions(first, last, ring, whole[ring])
+        return _Pieces(first, last - first + 1, ring, heads, tails)
+
+    def _directions(
+        self, first: Integers, last: Integers, ring: Integers, whole: Flags
+    ) -> tuple[Integers, Integers]:
+        """Give what tells a piece and its direction: its first edge, and its last one backwards.
+
+        Of a ring without junctions they are the two edges from its least place.
+        """
+        end = self.starts[ring] + (last - self.starts[ring]) % self.sizes[ring]
+        least = self.starts[:-1].copy()
+        if whole.any():
+            lows = np.minimum.reduceat(self.numbers, self.starts[:-1])
+            at_low = np.flatnonzero(self.numbers == lows[self.ring])
+            least[self.ring[at_low]] = at_low
+        begin = np.where(whole, least[ring], first)
+        end = np.where(whole, least[ring], end)
+        heads = self.numbers[begin] * self.count + self.numbers[self.after[begin]]
+        tails = self.numbers[end] * self.count + self.numbers[self.before[end]]
+        return heads, tails
 
 
-class _Maker:
-    """Takes ring after ring, and gives each piece the number of the arc that it is."""
+@dataclass
+class _Pieces:
+    """Pieces of rings: from which position, how many positions, and both their directions."""
 
-    def __init__(self, keys: Integers, starts: Integers) -> None:
-        self.keys = keys.tolist()
-        self.starts = starts.tolist()
-        self.rings: list[References] = []
-        self._known: dict[tuple[int, int], int] = {}
-        self._closed: dict[int, tuple[int, int]] = {}
-        self._pieces: list[tuple[int, int, int, int]] = []
+    first: Integers
+    length: Integers
+    ring: Integers
+    heads: Integers
+    tails: Integers
 
-    def take(self, ring: int, cuts: list[int]) -> None:
-        low, high = self.starts[ring], self.starts[ring + 1]
-        if not cuts:
-            self.rings.append([self._closed_arc(low, high)])
-            return
-        size = high - low
-        ends = [*cuts[1:], cuts[0] + size]
-        self.rings.append([self._arc(low, size, a, b) for a, b in zip(cuts, ends, strict=True)])
-
-    def _arc(self, low: int, size: int, a: int, b: int) -> int:
-        def key(at: int) -> int:
-            found: int = self.keys[low + (at - low) % size]
-            return found
-
-        known = self._known.get((key(a), key(a + 1)))
-        if known is not None:
-            return known
-        number = len(self._pieces)
-        self._pieces.append((low, size, a - low, b - a + 1))
-        self._known[key(a), key(a + 1)] = number
-        self._known.setdefault((key(b), key(b - 1)), -number - 1)
-        return number
-
-    def _closed_arc(self, low: int, high: int) -> int:
-        ring = self.keys[low:high]
-        least = min(range(len(ring)), key=ring.__getitem__)
-        after = ring[(least + 1) % len(ring)]
-        known = self._closed.get(ring[least])
-        if known is not None:
-            number, next_key = known
-            return number if next_key == after else -number - 1
-        number = len(self._pieces)
-        self._pieces.append((low, high - low, 0, high - low + 1))
-        self._closed[ring[least]] = number, after
-        return number
-
-    def arcs(self, places: Places) -> tuple[Places, Integers]:
-        if not self._pieces:
-            return np.empty((0, 2), dtype=np.int64), np.zeros(1, dtype=np.int64)
-        low, size, first, length = (np.array(column) for column in zip(*self._pieces, strict=True))
-        starts = starts_of(length)
-        within = np.arange(starts[-1]) - np.repeat(starts[:-1], length)
-        at = (np.repeat(first, length) + within) % np.repeat(size, length)
-        return places[np.repeat(low, length) + at], starts
+    def arcs(self, places: Places, rings: _Rings) -> Built:
+        """Give equal pieces one arc, in the order in which they come first."""
+        kinds, _ = pd.factorize(np.minimum(self.heads, self.tails))
+        fresh = np.flatnonzero(np.diff(np.maximum.accumulate(kinds), prepend=-1))
+        backwards = self.heads != self.heads[fresh][kinds]
+        references = np.where(backwards, -kinds - 1, kinds).astype(np.int64)
+        length, ring = self.length[fresh], self.ring[fresh]
+        low, size = rings.starts[ring], rings.sizes[ring]
+        at = np.repeat(self.first[fresh] - low, length) + within(length)
+        at = np.repeat(low, length) + at % np.repeat(size, length)
+        ring_starts = starts_of(np.bincount(self.ring, minlength=len(rings.sizes)))
+        return Built(places[at], starts_of(length), references, ring_starts)
 
 
 def ring_places(topology: Topology, references: References) -> Places:
@@ -134,21 +161,53 @@ def ring_places(topology: Topology, references: References) -> Places:
     return np.concatenate(pieces) if pieces else np.empty((0, 2), dtype=np.int64)
 
 
-def confirm(topology: Topology, rings: list[References], wanted: Snapped) -> None:
+def confirm(
+    topology: Topology, references: Integers, ring_starts: Integers, wanted: Snapped
+) -> None:
     """Put the rings together again and compare them with those wanted, as cyclic lists.
 
     Raises NotConfirmed at the first that differs.
     """
-    if len(rings) != len(wanted.starts) - 1:
-        raise NotConfirmed(f"the topology has {len(rings)} rings")
-    keys = Topology(keys_of(topology.places), topology.starts)
-    all_wanted = keys_of(wanted.places)
-    cuts = wanted.starts.tolist()
-    for number, references in enumerate(rings):
-        if not _is_turned(
-            ring_places(keys, references), all_wanted[cuts[number] : cuts[number + 1]]
-        ):
-            raise NotConfirmed(f"ring {number} of the topology is not that of the coverage")
+    if len(ring_starts) != len(wanted.starts):
+        raise NotConfirmed(f"the topology has {len(ring_starts) - 1} rings")
+    found, starts = ring_positions(topology, references, ring_starts)
+    keys, goal = keys_of(topology.places)[found], keys_of(wanted.places)
+    sizes = np.diff(wanted.starts)
+    same = np.diff(starts) == sizes
+    if same.all():
+        same = _are_turned(keys, goal, wanted.starts)
+    for ring in np.flatnonzero(~same).tolist():
+        low, high = wanted.starts[ring : ring + 2]
+        if not _is_turned(keys[starts[ring] : starts[ring + 1]], goal[low:high]):
+            raise NotConfirmed(f"ring {ring} of the topology is not that of the coverage")
+
+
+def ring_positions(
+    topology: Topology, references: Integers, ring_starts: Integers
+) -> tuple[Integers, Integers]:
+    """Give the positions, by number, of rings without their closing ones, and their starts."""
+    back = references < 0
+    arc = np.where(back, -references - 1, references)
+    first, last = topology.starts[arc], topology.starts[arc + 1] - 1
+    counts = np.maximum(last - first, 0)
+    step = np.repeat(np.where(back, -1, 1), counts)
+    found = np.repeat(np.where(back, last, first), counts) + step * within(counts)
+    return found, starts_of(counts)[ring_starts]
+
+
+def _are_turned(found: Integers, wanted: Integers, starts: Integers) -> Flags:
+    """Tell of rings of equal sizes which are the same where each begins at its first place.
+
+    A ring that comes by its first place again may be the same where this says no.
+    """
+    sizes = np.diff(starts)
+    ring = np.repeat(np.arange(len(sizes)), sizes)
+    hits = np.flatnonzero(wanted == found[starts[:-1]][ring])
+    turn = np.full(len(sizes), -1, dtype=np.int64)
+    turn[ring[hits]] = hits - starts[:-1][ring[hits]]
+    at = starts[:-1][ring] + (within(sizes) + turn[ring]) % sizes[ring]
+    differs = np.bincount(ring[found != wanted[at]], minlength=len(sizes)) > 0
+    return np.asarray((turn >= 0) & ~differs)
 
 
 def _is_turned(found: Integers, wanted: Integers) -> bool:

@@ -1,33 +1,32 @@
 """From a GeoDataFrame of polygons to rings on the grid, and to the GeoJSON that ``build`` reads."""
 
-import json
 from dataclasses import dataclass
 from typing import Any
 
 import geopandas as gpd
 import numpy as np
 import numpy.typing as npt
+import pandas as pd
+from shapely.geometry import MultiPolygon, Polygon
 
 from .errors import NotACoverage
 from .grid import Coordinates, Grid, Places
-from .topology import Integers, starts_of
-
-Parts = list[list[int]]
-"""The parts of one row, each as the numbers of its rings, the outer one first."""
+from .shapes import Flags, Layout, take_apart
+from .topology import Integers, lists_text, positions_text, starts_of
 
 
 @dataclass
 class Rings:
-    """The rings of all rows. Ring r has the positions ``starts[r]`` to ``starts[r + 1]``.
+    """The rings of all rows. Ring r has the positions ``starts[r]`` to ``starts[r + 1]``, closed.
 
-    ``rows`` has for each row its parts, or None where there is no geometry; ``multi`` says which
-    rows are multipolygons; ``notes`` is what was seen and is no fault.
+    ``missing`` says which rows have no geometry or an empty one, ``notes`` is what was seen and is
+    no fault.
     """
 
     coordinates: Coordinates
     starts: Integers
-    rows: list[Parts | None]
-    multi: list[bool]
+    layout: Layout
+    missing: Flags
     notes: list[str]
 
 
@@ -40,8 +39,7 @@ class Snapped:
 
     places: Places
     starts: Integers
-    rows: list[Parts | None]
-    multi: list[bool]
+    layout: Layout
     moved: tuple[float, float]
     notes: list[str]
 
@@ -52,17 +50,20 @@ def rings_of(frame: gpd.GeoDataFrame) -> Rings:
     Missing and empty geometries and heights become notes. Raises NotACoverage for rows that are
     neither polygons nor multipolygons, and for coordinates that are not finite.
     """
-    geometries = list(frame.geometry)
-    _refuse_others(frame, geometries)
-    rows: list[Parts | None] = []
-    pieces: list[Coordinates] = []
-    for geometry in geometries:
-        rows.append(None if is_missing(geometry) else _take_parts(geometry, pieces))
-    coordinates = np.concatenate(pieces) if pieces else np.empty((0, 2))
-    starts = starts_of([len(piece) for piece in pieces])
-    _refuse_infinite(frame, coordinates, starts, rows)
-    multi = [g is not None and g.geom_type == "MultiPolygon" for g in geometries]
-    return Rings(coordinates, starts, rows, multi, _notes_on(frame, geometries))
+    geometries = frame.geometry.array
+    shapes = np.asarray(geometries.data, dtype=object)
+    others = _others(shapes)
+    if len(others):
+        wrong = [frame.index[row] for row in others if not is_missing(shapes[row])]
+        if wrong:
+            raise NotACoverage("neither a polygon nor a multipolygon", wrong)
+        shapes = shapes.copy()
+        shapes[others] = None
+    parted = take_apart(shapes)
+    missing = np.diff(parted.layout.ring_starts) == 0
+    _refuse_infinite(frame, parted.coordinates, parted.starts, parted.layout)
+    notes = _notes_on(frame, missing, parted.has_height)
+    return Rings(parted.coordinates, parted.starts, parted.layout, missing, notes)
 
 
 def is_missing(geometry: Any) -> bool:
@@ -70,52 +71,33 @@ def is_missing(geometry: Any) -> bool:
     return geometry is None or bool(geometry.is_empty)
 
 
-def _refuse_others(frame: gpd.GeoDataFrame, geometries: list[Any]) -> None:
-    wrong = [
-        label
-        for label, geometry in zip(frame.index, geometries, strict=True)
-        if not is_missing(geometry) and geometry.geom_type not in ("Polygon", "MultiPolygon")
-    ]
-    if wrong:
-        raise NotACoverage("neither a polygon nor a multipolygon", wrong)
+def _others(shapes: npt.NDArray[np.object_]) -> list[int]:
+    """Give the rows that are neither polygons nor multipolygons nor None."""
+    if {type(shape) for shape in shapes} <= {Polygon, MultiPolygon, type(None)}:
+        return []
+    kinds = (Polygon, MultiPolygon, type(None))
+    return [row for row, shape in enumerate(shapes) if not isinstance(shape, kinds)]
 
 
 def _refuse_infinite(
-    frame: gpd.GeoDataFrame, coordinates: Coordinates, starts: Integers, rows: list[Parts | None]
+    frame: gpd.GeoDataFrame, coordinates: Coordinates, starts: Integers, layout: Layout
 ) -> None:
+    if np.isfinite(coordinates).all():
+        return
     bad = np.flatnonzero(~np.isfinite(coordinates).all(axis=1))
-    if len(bad):
-        rings = set((np.searchsorted(starts, bad, side="right") - 1).tolist())
-        wrong = [
-            label
-            for label, parts in zip(frame.index, rows, strict=True)
-            if any(ring in rings for part in parts or [] for ring in part)
-        ]
-        raise NotACoverage("a coordinate is not finite", wrong)
+    rings = np.searchsorted(starts, bad, side="right") - 1
+    rows = np.unique(layout.row_of_rings[rings])
+    raise NotACoverage("a coordinate is not finite", frame.index[rows].tolist())
 
 
-def _take_parts(geometry: Any, pieces: list[Coordinates]) -> Parts:
-    parts = geometry.geoms if geometry.geom_type == "MultiPolygon" else [geometry]
-    taken = []
-    for part in parts:
-        rings = [part.exterior, *part.interiors] if not part.is_empty else []
-        first = len(pieces)
-        pieces += [np.asarray(ring.coords, dtype=np.float64)[:, :2] for ring in rings]
-        if rings:
-            taken.append(list(range(first, len(pieces))))
-    return taken
-
-
-def _notes_on(frame: gpd.GeoDataFrame, geometries: list[Any]) -> list[str]:
+def _notes_on(frame: gpd.GeoDataFrame, missing: Flags, high: Flags) -> list[str]:
     notes = []
-    missing = [x for x, g in zip(frame.index, geometries, strict=True) if is_missing(g)]
-    if missing:
-        notes.append(f"{_rows(missing)} without a geometry, left as found")
-    high = [
-        x for x, g in zip(frame.index, geometries, strict=True) if not is_missing(g) and g.has_z
-    ]
-    if high:
-        notes.append(f"{_rows(high)} with heights, which are dropped")
+    if missing.any():
+        labels = frame.index[missing].tolist()
+        notes.append(f"{_rows(labels)} without a geometry, left as found")
+    if (high & ~missing).any():
+        labels = frame.index[high & ~missing].tolist()
+        notes.append(f"{_rows(labels)} with heights, which are dropped")
     return notes
 
 
@@ -133,24 +115,27 @@ def snapped(rings: Rings, grid: Grid, labels: list[Any]) -> Snapped:
     """
     places = grid.snap(rings.coordinates)
     moves = grid.moves(rings.coordinates, places)
+    moved = moves.max(axis=0) if len(moves) else (0.0, 0.0)
     keep = _without_repeats(places, rings.starts)
     starts = starts_of(keep)[rings.starts]
     places = places[keep]
     sizes = np.diff(starts)
     flat = (sizes < 3) | _walks_there_and_back(places, starts)
-    kept, rows, notes = _without_flat(rings.rows, flat, labels)
+    notes, layout = [], rings.layout
+    if flat.any():
+        flat, layout, notes = _without_flat(layout, flat, labels)
     notes += _joined_notes(rings.coordinates[keep], places)
-    places = places[np.repeat(~flat, sizes)]
-    moved = moves.max(axis=0) if len(moves) else (0.0, 0.0)
-    return Snapped(
-        places, starts_of(sizes[kept]), rows, rings.multi, (float(moved[0]), float(moved[1])), notes
-    )
+    if flat.any():
+        places = places[np.repeat(~flat, sizes)]
+        starts = starts_of(sizes[~flat])
+    return Snapped(places, starts, layout, (float(moved[0]), float(moved[1])), notes)
 
 
-def _without_repeats(places: Places, starts: Integers) -> npt.NDArray[np.bool_]:
+def _without_repeats(places: Places, starts: Integers) -> Flags:
     """Mark the places that stay where the closing one and consecutive equal ones are dropped."""
+    x, y = places[:, 0], places[:, 1]
     keep = np.ones(len(places), dtype=bool)
-    keep[:-1] = (places[1:] != places[:-1]).any(axis=1)
+    keep[:-1] = (x[1:] != x[:-1]) | (y[1:] != y[:-1])
     lasts = starts[1:] - 1
     keep[lasts] = (places[lasts] != places[starts[:-1]]).any(axis=1)
     return keep
@@ -166,30 +151,31 @@ def _walks_there_and_back(places: Places, starts: Integers) -> npt.NDArray[np.bo
 
 
 def _without_flat(
-    rows: list[Parts | None], flat: npt.NDArray[np.bool_], labels: list[Any]
-) -> tuple[Integers, list[Parts | None], list[str]]:
-    number = np.cumsum(~flat) - 1
-    lost, gone = [], 0
-    fresh: list[Parts | None] = []
-    for label, parts in zip(labels, rows, strict=True):
-        if parts is None:
-            fresh.append(None)
-            continue
-        left = [part for part in parts if not flat[part[0]]]
-        gone += sum(1 for part in parts for ring in part if flat[ring])
-        fresh.append([[int(number[r]) for r in part if not flat[r]] for part in left])
-        if parts and not left:
-            lost.append(label)
-    notes = (
-        [f"{gone} rings have fewer than three places on the grid and are left out"] if gone else []
-    )
-    if lost:
-        notes.append(f"{_rows(lost)} nothing is left on the grid, the geometry is empty")
-    return np.flatnonzero(~flat), fresh, notes
+    layout: Layout, flat: Flags, labels: list[Any]
+) -> tuple[Flags, Layout, list[str]]:
+    """Leave out flat rings, and with a flat outer ring its holes."""
+    gone = layout.with_holes(flat)
+    left = layout.without(gone)
+    notes = [f"{flat.sum()} rings have fewer than three places on the grid and are left out"]
+    lost = np.flatnonzero((np.diff(layout.parts) > 0) & (np.diff(left.parts) == 0))
+    if len(lost):
+        names = _rows([labels[row] for row in lost])
+        notes.append(f"{names} nothing is left on the grid, the geometry is empty")
+    return gone, left, notes
 
 
 def _joined_notes(coordinates: Coordinates, places: Places) -> list[str]:
     """Say where positions that were apart came together on the grid."""
+    numbers, _ = pd.factorize((places[:, 0] << 31) + places[:, 1])
+    some = np.empty(len(places), dtype=np.int64)
+    some[numbers] = np.arange(len(places))
+    differs = (coordinates != coordinates[some[numbers]]).any(axis=1)
+    if not differs.any():
+        return []
+    mixed = np.zeros(len(places), dtype=bool)
+    mixed[numbers[differs]] = True
+    at = np.flatnonzero(mixed[numbers])
+    coordinates, places = coordinates[at], places[at]
     order = np.lexsort((coordinates[:, 1], coordinates[:, 0], places[:, 1], places[:, 0]))
     found, where = coordinates[order], places[order]
     same = (where[1:] == where[:-1]).all(axis=1)
@@ -209,24 +195,40 @@ def _joined_notes(coordinates: Coordinates, places: Places) -> list[str]:
 
 def geojson(rings: Snapped, towns: Places | None) -> bytes:
     """Give the FeatureCollection that ``build`` reads: one feature a row, the towns as the last."""
-    places = rings.places.tolist()
-    starts = rings.starts.tolist()
-
-    def ring(number: int) -> list[list[int]]:
-        low, high = starts[number], starts[number + 1]
-        return [*places[low:high], places[low]]
-
-    features: list[dict[str, Any] | None] = []
-    for parts, multi in zip(rings.rows, rings.multi, strict=True):
-        shape = [[ring(number) for number in part] for part in parts or []]
-        if multi and shape:
-            features.append({"type": "MultiPolygon", "coordinates": shape})
-        else:
-            features.append({"type": "Polygon", "coordinates": shape[0]} if shape else None)
+    features = [_feature(shape) for shape in _shapes(rings)]
     if towns is not None:
-        features.append({"type": "MultiPoint", "coordinates": towns.tolist()})
-    whole = {
-        "type": "FeatureCollection",
-        "features": [{"type": "Feature", "geometry": geometry} for geometry in features],
-    }
-    return json.dumps(whole, separators=(",", ":")).encode()
+        points = positions_text(towns)
+        features.append(_feature(b'{"type":"MultiPoint","coordinates":' + points + b"}"))
+    return b'{"type":"FeatureCollection","features":[' + b",".join(features) + b"]}"
+
+
+def _feature(geometry: bytes) -> bytes:
+    return b'{"type":"Feature","geometry":' + geometry + b"}"
+
+
+def _shapes(rings: Snapped) -> list[bytes]:
+    """Give the GeoJSON geometry of each row."""
+    layout = rings.layout
+    texts = _ring_texts(rings)
+    ends = layout.rings.tolist()
+    parts = [b"[" + b",".join(texts[a:b]) + b"]" for a, b in zip(ends, ends[1:], strict=False)]
+    cuts, shapes = layout.parts.tolist(), []
+    for low, high, multi in zip(cuts, cuts[1:], layout.multi.tolist(), strict=False):
+        if low == high:
+            shapes.append(b"null")
+        elif multi:
+            whole = b",".join(parts[low:high])
+            shapes.append(b'{"type":"MultiPolygon","coordinates":[' + whole + b"]}")
+        else:
+            shapes.append(b'{"type":"Polygon","coordinates":' + parts[low] + b"}")
+    return shapes
+
+
+def _ring_texts(rings: Snapped) -> list[bytes]:
+    """Give each ring, closed, as a JSON list."""
+    if len(rings.starts) == 1:
+        return []
+    closings = np.insert(rings.places, rings.starts[1:], rings.places[rings.starts[:-1]], axis=0)
+    starts = rings.starts + np.arange(len(rings.starts))
+    inner = lists_text(closings, starts)[3:-3]
+    return [b"[[" + ring + b"]]" for ring in inner.split(b"]],[[")]

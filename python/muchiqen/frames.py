@@ -4,11 +4,37 @@ from typing import Any
 
 import geopandas as gpd
 import numpy as np
-from shapely.geometry import LineString, MultiLineString, MultiPoint, MultiPolygon, Point, Polygon
+from geopandas.array import GeometryArray
+from shapely.geometry import LineString, MultiLineString, MultiPoint, Point
 
-from .build import ring_places
+from .build import ring_positions
 from .grid import Coordinates
-from .topology import References, Topology, walk
+from .shapes import Flags, Layout, Objects, put_together
+from .topology import Integers, Named, References, Topology, starts_of, walk
+
+
+def polygons_of(topology: Topology, named: Named, multi: Flags) -> Objects:
+    """Give the polygons that name arcs, in the CRS's units; ``multi`` says which have many parts.
+
+    Rings of fewer than four positions, and parts whose outer ring has fewer, are left out.
+    """
+    at, starts = ring_positions(topology, named.references, named.starts)
+    sizes = np.diff(starts)
+    layout = Layout(named.parts, named.rings, multi)
+    if (sizes < 3).any():
+        at, starts, layout = _without_short(at, starts, layout)
+        sizes = np.diff(starts)
+    closed = np.insert(at, starts[1:], at[starts[:-1]]) if len(sizes) else at
+    coordinates = topology.grid.unsnap(topology.places[closed])
+    return put_together(coordinates, starts + np.arange(len(starts)), layout)
+
+
+def _without_short(
+    at: Integers, starts: Integers, layout: Layout
+) -> tuple[Integers, Integers, Layout]:
+    sizes = np.diff(starts)
+    gone = layout.with_holes(sizes < 3)
+    return at[np.repeat(~gone, sizes)], starts_of(sizes[~gone]), layout.without(gone)
 
 
 class Shapes:
@@ -17,38 +43,28 @@ class Shapes:
     def __init__(self, topology: Topology) -> None:
         self._topology = topology
         self._grid = topology.grid
-        self._coordinates = Topology(topology.places, topology.starts)
-        self._floats = self._grid.unsnap(topology.places)
 
     def _line(self, references: References) -> Coordinates:
-        pieces = []
-        starts = self._topology.starts
-        for at, number in enumerate(references):
-            forward = number if number >= 0 else -number - 1
-            piece = self._floats[starts[forward] : starts[forward + 1]]
-            piece = piece if number >= 0 else piece[::-1]
-            pieces.append(piece if at == 0 else piece[1:])
-        return np.concatenate(pieces) if pieces else np.empty((0, 2))
+        numbers = np.array(references, dtype=np.int64)
+        ends = np.array([0, len(numbers)])
+        at, _ = ring_positions(self._topology, numbers, ends)
+        last = [self._topology.arc(number)[-1:] for number in references[-1:]]
+        places = np.concatenate([self._topology.places[at], *last])
+        return self._grid.unsnap(places)
 
-    def polygon(self, rings: list[References]) -> Polygon:
-        """Give a polygon; rings of fewer than four positions are left out."""
-        lines = [self._line(references) for references in rings]
-        if not lines or len(lines[0]) < 4:
-            return Polygon()
-        return Polygon(lines[0], [line for line in lines[1:] if len(line) >= 4])
+    def all_of(self, geometries: list[dict[str, Any]]) -> Objects:
+        """Give the shapely geometries, None for one of type null or a collection."""
+        shapes = [parts_of(geometry) for geometry in geometries]
+        named = Named.of([parts or [] for parts in shapes])
+        multi = np.array([g["type"] == "MultiPolygon" for g in geometries], dtype=bool)
+        made = polygons_of(self._topology, named, multi)
+        for row, parts in enumerate(shapes):
+            if parts is None:
+                made[row] = self._other(geometries[row])
+        return made
 
-    def multipolygon(self, parts: list[list[References]]) -> MultiPolygon:
-        """Give a multipolygon of the parts that are not empty."""
-        made = [self.polygon(rings) for rings in parts]
-        return MultiPolygon([part for part in made if not part.is_empty])
-
-    def geometry(self, geometry: dict[str, Any]) -> Any:
-        """Give the shapely geometry, None for a geometry of type null."""
+    def _other(self, geometry: dict[str, Any]) -> Any:
         kind = geometry["type"]
-        if kind == "Polygon":
-            return self.polygon(geometry["arcs"])
-        if kind == "MultiPolygon":
-            return self.multipolygon(geometry["arcs"])
         if kind == "LineString":
             return LineString(self._line(geometry["arcs"]))
         if kind == "MultiLineString":
@@ -60,6 +76,16 @@ class Shapes:
         return None
 
 
+def parts_of(geometry: dict[str, Any]) -> list[list[References]] | None:
+    """Give the parts of a polygon or multipolygon, None for another geometry."""
+    if geometry["type"] == "Polygon":
+        return [geometry["arcs"]]
+    if geometry["type"] == "MultiPolygon":
+        arcs: list[list[References]] = geometry["arcs"]
+        return arcs
+    return None
+
+
 def frame_of(topology: Topology, name: str | None = None, crs: Any = None) -> gpd.GeoDataFrame:
     """Give one object as a GeoDataFrame: a row a geometry, its properties as columns.
 
@@ -67,7 +93,6 @@ def frame_of(topology: Topology, name: str | None = None, crs: Any = None) -> gp
     """
     chosen = name if name is not None else polygon_object(topology)
     geometries = rows_of(topology.objects[chosen])
-    shapes = Shapes(topology)
     columns: dict[str, list[Any]] = {}
     for at, geometry in enumerate(geometries):
         named = dict(geometry.get("properties") or {})
@@ -76,7 +101,7 @@ def frame_of(topology: Topology, name: str | None = None, crs: Any = None) -> gp
         for key, value in named.items():
             columns.setdefault(key, [None] * len(geometries))[at] = value
     columns.pop("geometry", None)
-    made = [shapes.geometry(geometry) for geometry in geometries]
+    made = GeometryArray(Shapes(topology).all_of(geometries), crs=crs)
     return gpd.GeoDataFrame(columns, geometry=gpd.GeoSeries(made), crs=crs)
 
 
@@ -96,15 +121,4 @@ def polygon_object(topology: Topology) -> str:
     return next(iter(topology.objects))
 
 
-def rings_of_rows(geometries: list[dict[str, Any]]) -> list[References]:
-    """Give the rings of polygons in their order."""
-    rings: list[References] = []
-    for geometry in geometries:
-        parts = (
-            geometry["arcs"] if geometry["type"] == "MultiPolygon" else [geometry.get("arcs", [])]
-        )
-        rings += [ring for part in parts for ring in part]
-    return rings
-
-
-__all__ = ["Shapes", "frame_of", "polygon_object", "ring_places", "rings_of_rows", "rows_of"]
+__all__ = ["Shapes", "frame_of", "parts_of", "polygon_object", "polygons_of", "rows_of"]

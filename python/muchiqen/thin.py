@@ -3,8 +3,7 @@
 import json
 import math
 import os
-from collections.abc import Sequence
-from dataclasses import dataclass, field, replace
+from dataclasses import dataclass, field
 from decimal import ROUND_FLOOR, Decimal
 from functools import cached_property
 from pathlib import Path
@@ -12,12 +11,12 @@ from typing import Any
 
 import geopandas as gpd
 import numpy as np
-from shapely.geometry import LineString, Point, Polygon
+from geopandas.array import GeometryArray
+from shapely.geometry import Polygon
 
 from . import build as own_build
 from . import coverage as cover
 from . import grid as grids
-from . import survey
 from .command import (
     MOST_BOUND,
     MOST_BYTES,
@@ -28,11 +27,14 @@ from .command import (
     checked_weights,
 )
 from .errors import ArcsMeet, BadGrid, NotACoverage, NotConfirmed, NotRead, PointOnArc
-from .frames import frame_of, polygon_object, rings_of_rows, rows_of
+from .frames import Shapes, frame_of, parts_of, polygon_object, polygons_of, rows_of
 from .grid import Coordinates, Grid, Places
-from .meetings import Held, why_held
+from .meetings import why_held
+from .notes import after_notes, fault_notes, town_notes, with_causes
 from .report import Report
-from .topology import Topology, polygons, read
+from .shapes import Flags, Layout, Objects
+from .topology import Integers, Named, Topology, read, read_thinned
+from .towns import towns_of
 
 Program = str | os.PathLike[str] | Command | None
 Source = Any
@@ -135,11 +137,12 @@ def simplify(
     tolerance = grids.checked_tolerance(tolerance)
     command = Command.at(program)
     work = prepare(coverage, tolerance, towns, grid=grid, weights=weights, crs=crs, command=command)
-    source = work.text()
+    parts = work.text_parts()
+    source = b"".join(parts)
     out, certificate, held, verdict = _run(command, source, work, hold=hold, certify=certify)
-    after = read(out)
+    after = read_thinned(work.topology, parts, out)
     frame = work.rows_of(after)
-    meetings = _with_causes(why_held(work.topology, held), work) if held else []
+    meetings = with_causes(why_held(work.topology, held), work) if held else []
     report = Report(
         arcs=work.topology.arc_count,
         positions_before=len(work.topology.places),
@@ -150,10 +153,14 @@ def simplify(
         largest_move=max(work.moved),
         built_by=work.built_by,
         held=meetings,
-        notes=[*work.notes, *_fault_notes(work, tolerance), *_after_notes(work, frame)],
+        notes=[
+            *work.notes,
+            *fault_notes(work, tolerance, arranged=not held),
+            *after_notes(work, frame),
+            *town_notes(work, after),
+        ],
         verdict=verdict,
     )
-    report.notes += _town_notes(work, after)
     words = (["--hold"] if hold else []) + (
         [] if work.weights is None else ["--weights", *map(str, work.weights)]
     )
@@ -210,28 +217,65 @@ class Work:
     town_labels: list[Any]
     town_coordinates: Coordinates
     rings: cover.Rings | None = None
+    layout: Layout | None = None
 
-    def text(self) -> bytes:
-        """Give the text that goes to the command: the bytes that came in, where they did."""
-        return self.raw if self.raw is not None else self.topology.text()
+    def text_parts(self) -> tuple[bytes, bytes, bytes]:
+        """Give the text that goes to the command, as ``Topology.text_parts`` does.
 
-    def rows_of(self, topology: Topology) -> gpd.GeoDataFrame:
-        """Give the rows of the coverage with their geometry in this topology."""
-        made = frame_of(topology, polygon_object(topology), self.crs)
+        The bytes that came in, where they did, stand in one piece.
+        """
+        return self.topology.text_parts() if self.raw is None else (self.raw, b"", b"")
+
+    def rows_of(self, topology: Topology, rows: Integers | None = None) -> gpd.GeoDataFrame:
+        """Give the rows of the coverage, or some of them, with their geometry in this topology."""
         if self.frame is None:
-            return made
-        pairs = zip(self.frame.geometry, made.geometry, strict=True)
-        geometry = [old if cover.is_missing(old) else new or Polygon() for old, new in pairs]
-        frame = self.frame.copy()
-        frame[frame.geometry.name] = gpd.GeoSeries(geometry, index=frame.index, crs=self.crs)
+            made = frame_of(topology, polygon_object(topology), self.crs)
+            return made if rows is None else made.iloc[rows]
+        frame = self.frame.copy() if rows is None else self.frame.iloc[rows].copy()
+        made = self._shapes(topology, rows)
+        for row in np.flatnonzero(self._missing if rows is None else self._missing[rows]).tolist():
+            made[row] = frame.geometry.iloc[row]
+        frame[frame.geometry.name] = GeometryArray(made, crs=self.crs)
         return frame
+
+    def _shapes(self, topology: Topology, rows: Integers | None) -> Objects:
+        """Give the geometry of each row, an empty polygon where nothing is left of it."""
+        assert self.layout is not None
+        made = np.empty(self.layout.row_count, dtype=object)
+        if rows is None:
+            multi = self.layout.multi[self.on_grid]
+            made[self.on_grid] = polygons_of(topology, topology.named, multi)
+        else:
+            geometries = topology.objects["rows"]["geometries"]
+            made = Shapes(topology).all_of([geometries[row] for row in rows.tolist()])
+        for row in range(len(made)):
+            if made[row] is None:
+                made[row] = Polygon()
+        return made
+
+    @property
+    def on_grid(self) -> Flags:
+        """The rows of the frame of which there is something on the grid."""
+        assert self.layout is not None
+        return np.asarray(np.diff(self.layout.parts) > 0)
+
+    @property
+    def lost_rings(self) -> bool:
+        """Whether a ring of the frame is not on the grid."""
+        assert self.layout is not None and self.rings is not None
+        return len(self.rings.starts) - 1 != self.layout.rings[-1]
+
+    @property
+    def _missing(self) -> Flags:
+        assert self.rings is not None
+        return self.rings.missing
 
     def town_frame(self) -> gpd.GeoDataFrame | None:
         """Give the towns on the grid; None where there are none."""
         if not len(self.town_coordinates):
             return None
         found = self.topology.grid.unsnap(self.topology.points()[-len(self.town_coordinates) :])
-        geometry = [Point(x, y) for x, y in found.tolist()]
+        geometry = gpd.points_from_xy(found[:, 0], found[:, 1])
         return gpd.GeoDataFrame({}, geometry=geometry, index=self.town_labels, crs=self.crs)
 
 
@@ -328,6 +372,7 @@ def _prepare_frame(
         labels,
         coordinates,
         rings,
+        snapped.layout,
     )
 
 
@@ -345,38 +390,6 @@ def grid_of(
     return grids.choose(coordinates, tolerance, max(weights or (1, 1)))
 
 
-def towns_of(
-    towns: gpd.GeoDataFrame | gpd.GeoSeries | None, crs: Any, notes: list[str]
-) -> tuple[list[Any], Coordinates]:
-    """Give the labels and coordinates of the towns, in the CRS of the coverage.
-
-    Raises NotACoverage where one is no point, or not finite.
-    """
-    if towns is None:
-        return [], np.empty((0, 2))
-    points = towns.geometry
-    if crs is not None and points.crs is not None and points.crs != crs:
-        points = points.to_crs(crs)
-        notes.append("the towns were brought to the CRS of the coverage")
-    labels, rows, missing, wrong = [], [], 0, []
-    for label, point in zip(points.index, points, strict=True):
-        if point is None or point.is_empty:
-            missing += 1
-        elif point.geom_type not in ("Point", "MultiPoint"):
-            wrong.append(label)
-        else:
-            for single in getattr(point, "geoms", [point]):
-                labels.append(label)
-                rows.append(single.coords[0][:2])
-    coordinates = np.array(rows, dtype=np.float64).reshape(-1, 2)
-    wrong += [labels[at] for at in np.flatnonzero(~np.isfinite(coordinates).all(axis=1))]
-    if wrong:
-        raise NotACoverage("a town is no point with finite coordinates", wrong)
-    if missing:
-        notes.append(f"{missing} towns without a geometry, left out")
-    return labels, coordinates
-
-
 def make_topology(
     snapped: cover.Snapped, towns: Places | None, grid: Grid, command: Command
 ) -> tuple[Topology, str]:
@@ -385,37 +398,60 @@ def make_topology(
     Otherwise the package's own way makes it. Either way the rings are put together again and
     compared: NotConfirmed where one differs.
     """
-    built_by = "muchiqen"
-    fits = len(snapped.places) + len(snapped.starts) <= MOST_RING_POSITIONS
-    count = 0 if towns is None else len(towns)
-    fits = fits and max(len(snapped.rows), count) < MOST_POSITIONS
-    if fits and command.has_build():
-        text = cover.geojson(snapped, towns)
-        if len(text) <= MOST_BYTES:
-            topology, built_by = read(command.build(text)), "build"
-            geometries = rows_of(topology.objects["features"])[: len(snapped.rows)]
-    if built_by == "muchiqen":
-        built = own_build.build(snapped.places, snapped.starts)
-        topology = Topology(built.places, built.starts)
-        geometries = [
-            _geometry(parts, multi, built.rings)
-            for parts, multi in zip(snapped.rows, snapped.multi, strict=True)
-        ]
-    own_build.confirm(topology, rings_of_rows(geometries), snapped)
+    made, built_by = _by_command(snapped, towns, command), "build"
+    if made is None:
+        made, built_by = _by_package(snapped), "muchiqen"
+    topology, named, geometries = made
+    own_build.confirm(topology, named.references, named.starts, snapped)
+    if not np.array_equal(named.rings, snapped.layout.rings):
+        raise NotConfirmed("the topology has its rings in other parts")
     objects: dict[str, Any] = {"rows": {"type": "GeometryCollection", "geometries": geometries}}
     if towns is not None:
         objects["towns"] = {"type": "MultiPoint", "coordinates": towns.tolist()}
     transform = {"scale": list(grid.scale), "translate": list(grid.translate)}
-    topology.members = {"type": "Topology", "transform": transform, "objects": objects}
-    topology.place_of_arcs = None
-    return topology, built_by
+    members = {"type": "Topology", "transform": transform, "objects": objects}
+    return Topology(topology.places, topology.starts, members).naming(named), built_by
 
 
-def _geometry(parts: cover.Parts | None, multi: bool, rings: list[list[int]]) -> dict[str, Any]:
+_Made = tuple[Topology, Named, list[dict[str, Any]]]
+
+
+def _by_command(snapped: cover.Snapped, towns: Places | None, command: Command) -> _Made | None:
+    fits = len(snapped.places) + len(snapped.starts) <= MOST_RING_POSITIONS
+    count = 0 if towns is None else len(towns)
+    fits = fits and max(snapped.layout.row_count, count) < MOST_POSITIONS
+    if not fits or not command.has_build():
+        return None
+    text = cover.geojson(snapped, towns)
+    if len(text) > MOST_BYTES:
+        return None
+    topology = read(command.build(text))
+    geometries = rows_of(topology.objects["features"])[: snapped.layout.row_count]
+    shapes = (parts_of(geometry) for geometry in geometries)
+    return topology, Named.of([parts for parts in shapes if parts is not None]), geometries
+
+
+def _by_package(snapped: cover.Snapped) -> _Made:
+    built = own_build.build(snapped.places, snapped.starts)
+    layout = snapped.layout
+    there = np.append(np.diff(layout.parts) > 0, True)
+    named = Named(built.references, built.ring_starts, layout.rings, layout.parts[there])
+    rings, ends = built.rings, layout.rings.tolist()
+    parts = [rings[a:b] for a, b in zip(ends, ends[1:], strict=False)]
+    cuts = layout.parts.tolist()
+    geometries = [
+        _geometry(parts[a:b], multi)
+        for a, b, multi in zip(cuts, cuts[1:], layout.multi.tolist(), strict=False)
+    ]
+    return Topology(built.places, built.starts), named, geometries
+
+
+def _geometry(parts: list[list[list[int]]], multi: bool) -> dict[str, Any]:
     if not parts:
         return {"type": None}
-    arcs = [[rings[ring] for ring in part] for part in parts]
-    return {"type": "MultiPolygon", "arcs": arcs} if multi else {"type": "Polygon", "arcs": arcs[0]}
+    if multi:
+        return {"type": "MultiPolygon", "arcs": parts}
+    return {"type": "Polygon", "arcs": parts[0]}
 
 
 def _weights_of_frame(
@@ -489,120 +525,3 @@ def bound_of(
     if steps > MOST_BOUND:
         notes.append("the tolerance is wider than the grid")
     return min(int(steps), MOST_BOUND)
-
-
-def _with_causes(held: list[Held], work: Work) -> list[Held]:
-    """Say of each meeting whether the edges met before snapping."""
-    if work.rings is None:
-        return held
-    origin = _Origins(work)
-    return [origin.judged(meeting) for meeting in held]
-
-
-class _Origins:
-    """Finds where the places on the grid came from."""
-
-    def __init__(self, work: Work) -> None:
-        assert work.rings is not None
-        self._topology = work.topology.without_repeats()
-        places = work.topology.grid.snap(work.rings.coordinates)
-        keys = own_build.keys_of(places).tolist()
-        self._found = dict(zip(keys, work.rings.coordinates.tolist(), strict=True))
-        self._towns = work.town_coordinates
-
-    def _edge(self, arc: int, edge: int) -> Any:
-        places = self._topology.arc(arc)[edge : edge + 2]
-        return LineString([self._found[key] for key in own_build.keys_of(places).tolist()])
-
-    def judged(self, held: Held) -> Held:
-        own = self._edge(held.arc, held.edges[0])
-        if held.kind == "has a town on it":
-            other = Point(self._towns[held.other])
-            return replace(held, by_snapping=own.distance(other) > 0)
-        return replace(held, by_snapping=not own.intersects(self._edge(held.other, held.edges[1])))
-
-
-def _fault_notes(work: Work, tolerance: float) -> list[str]:
-    """Say which polygons overlap, as their borders tell, and where narrow gaps are."""
-    labels = _polygon_labels(work)
-    pairs = survey.overlapping(work.topology)
-    notes = [f"rows {labels[a]} and {labels[b]} overlap" for a, b in pairs[:20]]
-    if len(pairs) > 20:
-        notes.append(f"{len(pairs) - 20} more pairs of rows overlap")
-    gaps = survey.narrow_gaps(work.topology, tolerance)
-    for gap in gaps[:10]:
-        x, y = gap.representative_point().coords[0]
-        notes.append(f"a gap narrower than the tolerance near ({x:g}, {y:g}), area {gap.area:g}")
-    if len(gaps) > 10:
-        notes.append(f"{len(gaps) - 10} more gaps narrower than the tolerance")
-    return notes
-
-
-def _polygon_labels(work: Work) -> list[Any]:
-    if work.frame is None:
-        return list(range(sum(1 for _ in polygons(work.topology.objects))))
-    geometries = work.topology.objects["rows"]["geometries"]
-    labels = zip(work.frame.index, geometries, strict=True)
-    return [label for label, geometry in labels if geometry["type"] is not None]
-
-
-def _after_notes(work: Work, frame: gpd.GeoDataFrame) -> list[str]:
-    """Say which rows shapely finds invalid, and whether they came so."""
-    bad = survey.invalid_rows(frame)
-    if not bad:
-        return []
-    snapped = set(survey.invalid_rows(work.rows_of(work.topology).loc[bad]))
-    before = snapped if work.frame is None else set(survey.invalid_rows(work.frame.loc[bad]))
-    fresh = [label for label in bad if label not in snapped]
-    if fresh:
-        raise NotConfirmed(f"rows {fresh[:5]} are valid before thinning and not after")
-    return [
-        f"row {label}: the polygon crosses or touches itself"
-        + (", as it came" if label in before else ", only once on the grid")
-        for label in bad[:20]
-    ]
-
-
-def _town_notes(work: Work, after: Topology) -> list[str]:
-    """Compare which rows hold each town: as they came, on the grid, and thinned.
-
-    Raises NotConfirmed where thinning changed one.
-    """
-    if not len(work.town_coordinates):
-        return []
-    labels = _polygon_labels(work)
-    rows = survey.arcs_of_polygons(work.topology)
-    towns = work.topology.points()[-len(work.town_coordinates) :]
-    on_grid = survey.holders(work.topology.places, work.topology.starts, rows, towns)
-    thinned = survey.holders(after.places, after.starts, rows, towns)
-    changed = [x for x, a, b in zip(work.town_labels, on_grid, thinned, strict=True) if a != b]
-    if changed:
-        raise NotConfirmed(f"towns {changed[:5]} are in other rows after thinning")
-    first = on_grid if work.rings is None else _holders_as_they_came(work.rings, work)
-    notes = [
-        f"town {label}: snapping takes it from {_names(labels, a)} to {_names(labels, b)}"
-        for label, a, b in zip(work.town_labels, first, on_grid, strict=True)
-        if a != b
-    ]
-    outside = [label for label, found in zip(work.town_labels, first, strict=True) if not found]
-    if outside:
-        notes.append(f"{len(outside)} towns are in no row: {_some(outside)}")
-    return notes
-
-
-def _holders_as_they_came(rings: cover.Rings, work: Work) -> list[list[int]]:
-    geometries = work.topology.objects["rows"]["geometries"]
-    rows = [
-        [ring for part in parts or [] for ring in part]
-        for parts, geometry in zip(rings.rows, geometries, strict=True)
-        if geometry["type"] is not None
-    ]
-    return survey.holders(rings.coordinates, rings.starts, rows, work.town_coordinates)
-
-
-def _names(index: list[Any], rows: list[int]) -> str:
-    return "no row" if not rows else "row " + " and ".join(str(index[row]) for row in rows)
-
-
-def _some(labels: Sequence[Any]) -> str:
-    return ", ".join(str(label) for label in labels[:5]) + (" .." if len(labels) > 5 else "")

@@ -5,6 +5,8 @@ import re
 import warnings
 from collections.abc import Iterator
 from dataclasses import dataclass, field
+from functools import cached_property
+from itertools import chain
 from typing import Any
 
 import numpy as np
@@ -16,6 +18,54 @@ from .grid import Grid, Places
 Integers = npt.NDArray[np.int64]
 References = list[int]
 """Arc numbers; ``-i - 1`` is arc i walked backwards."""
+
+
+@dataclass(frozen=True)
+class Named:
+    """The arcs that polygons name, in the order of the text, flat.
+
+    Polygon n has the parts ``parts[n]`` to ``parts[n + 1]``, part p the rings ``rings[p]`` to
+    ``rings[p + 1]``, ring r the references ``starts[r]`` to ``starts[r + 1]``.
+    """
+
+    references: Integers
+    starts: Integers
+    rings: Integers
+    parts: Integers
+
+    @classmethod
+    def of(cls, shapes: list[list[list[References]]]) -> "Named":
+        """Take the references of polygons, each a list of parts, each a list of rings."""
+        parts = list(chain.from_iterable(shapes))
+        rings = list(chain.from_iterable(parts))
+        references = np.array(list(chain.from_iterable(rings)), dtype=np.int64)
+        counts = (starts_of([len(one) for one in many]) for many in (rings, parts, shapes))
+        return cls(references, *counts)
+
+    @property
+    def count(self) -> int:
+        """The number of polygons."""
+        return len(self.parts) - 1
+
+    @property
+    def arcs(self) -> Integers:
+        """The arcs of the references."""
+        return np.asarray(np.where(self.references < 0, -self.references - 1, self.references))
+
+    @property
+    def part_of_rings(self) -> Integers:
+        """For each ring its part."""
+        return np.repeat(np.arange(len(self.rings) - 1), np.diff(self.rings))
+
+    @property
+    def polygon_of_rings(self) -> Integers:
+        """For each ring its polygon."""
+        return np.repeat(np.arange(self.count), np.diff(self.rings[self.parts]))
+
+    @property
+    def ring_of_references(self) -> Integers:
+        """For each reference its ring."""
+        return np.repeat(np.arange(len(self.starts) - 1), np.diff(self.starts))
 
 
 @dataclass
@@ -56,6 +106,11 @@ class Topology:
         objects: dict[str, Any] = self.members["objects"]
         return objects
 
+    @cached_property
+    def named(self) -> Named:
+        """The arcs that the polygons name."""
+        return Named.of(list(polygons(self.objects)))
+
     def arc(self, number: int) -> Places:
         """Give the places of an arc; a number below 0 gives it backwards, as references do."""
         forward = number if number >= 0 else -number - 1
@@ -64,6 +119,10 @@ class Topology:
 
     def points(self) -> Places:
         """Give the places of all points and multipoints, in the order of the text."""
+        return self._points
+
+    @cached_property
+    def _points(self) -> Places:
         rows: list[list[float]] = []
         for geometry in walk(self.objects):
             if geometry["type"] == "Point":
@@ -74,7 +133,12 @@ class Topology:
 
     def with_arcs(self, places: Places, starts: Integers) -> "Topology":
         """Give the same topology with other arcs."""
-        return Topology(places, starts, self.members, self.place_of_arcs)
+        return Topology(places, starts, self.members, self.place_of_arcs).naming(self.named)
+
+    def naming(self, named: Named) -> "Topology":
+        """Give this topology, told what its polygons name, which then is not looked up."""
+        self.__dict__["named"] = named
+        return self
 
     def without_repeats(self) -> "Topology":
         """Give the same topology with consecutive equal positions of an arc taken once."""
@@ -87,14 +151,39 @@ class Topology:
 
     def text(self) -> bytes:
         """Give the compact TopoJSON text."""
-        parts = [f"{_compact(k)}:{_compact(v)}".encode() for k, v in self.members.items()]
-        arcs = b'"arcs":' + arcs_text(self.places, self.starts, coded=self.is_coded)
-        parts.insert(len(parts) if self.place_of_arcs is None else self.place_of_arcs, arcs)
-        return b"{" + b",".join(parts) + b"}"
+        return b"".join(self.text_parts())
+
+    def text_parts(self) -> tuple[bytes, bytes, bytes]:
+        """Give the text in three: before the value of ``arcs``, that value, and behind it."""
+        parts = [_compact(key) + b":" + _member(key, value) for key, value in self.members.items()]
+        place = len(parts) if self.place_of_arcs is None else self.place_of_arcs
+        before = b"{" + b"".join(part + b"," for part in parts[:place]) + b'"arcs":'
+        behind = b"".join(b"," + part for part in parts[place:]) + b"}"
+        return before, arcs_text(self.places, self.starts, coded=self.is_coded), behind
 
 
-def _compact(value: object) -> str:
-    return json.dumps(value, ensure_ascii=False, separators=(",", ":"))
+def _compact(value: object) -> bytes:
+    return json.dumps(value, ensure_ascii=False, separators=(",", ":")).encode()
+
+
+def _member(key: str, value: Any) -> bytes:
+    if key != "objects":
+        return _compact(value)
+    objects = (_compact(name) + b":" + _object(shape) for name, shape in value.items())
+    return b"{" + b",".join(objects) + b"}"
+
+
+def _object(shape: Any) -> bytes:
+    """Give the text of an object; a long list of points is not spelled one by one."""
+    if list(shape) != ["type", "coordinates"] or shape["type"] != "MultiPoint":
+        return _compact(shape)
+    rows = shape["coordinates"]
+    if not rows or not all(len(row) == 2 for row in rows):
+        return _compact(shape)
+    places = np.array(rows)
+    if places.dtype != np.int64:
+        return _compact(shape)
+    return b'{"type":"MultiPoint","coordinates":' + positions_text(places) + b"}"
 
 
 def walk(objects: dict[str, Any]) -> Iterator[dict[str, Any]]:
@@ -119,8 +208,9 @@ def polygons(objects: dict[str, Any]) -> Iterator[list[list[References]]]:
 
 def starts_of(counts: Any) -> Integers:
     """Give the starts that belong to counts of positions."""
-    sums = np.cumsum(np.asarray(counts, dtype=np.int64))
-    return np.insert(sums, 0, 0)
+    starts = np.zeros(len(counts) + 1, dtype=np.int64)
+    np.cumsum(np.asarray(counts, dtype=np.int64), out=starts[1:])
+    return starts
 
 
 def within(counts: Integers) -> Integers:
@@ -141,14 +231,75 @@ def arcs_text(places: Places, starts: Integers, *, coded: bool = False) -> bytes
         rows = np.diff(places, axis=0, prepend=places[:1] * 0)
         firsts = starts[:-1][starts[:-1] < starts[1:]]
         rows[firsts] = places[firsts]
+    return lists_text(rows, starts)
+
+
+def lists_text(rows: Places, starts: Integers) -> bytes:
+    """Give lists of positions as a JSON list of lists; list i ends before ``starts[i + 1]``."""
+    full = np.flatnonzero(np.diff(starts) > 0)
+    if len(full) < len(starts) - 1:
+        return _with_empty_lists(rows, starts)
+    if not len(full):
+        return b"[]"
     pieces = []
-    for low in range(0, len(starts) - 1, _CHUNK):
+    for low in range(0, len(full), _CHUNK):
         ends = starts[low : low + _CHUNK + 1]
-        values = rows[ends[0] : ends[-1]].tolist()
-        cuts = (ends - ends[0]).tolist()
-        arcs = [values[a:b] for a, b in zip(cuts, cuts[1:], strict=False)]
-        pieces.append(json.dumps(arcs, separators=(",", ":"))[1:-1].encode())
-    return b"[" + b",".join(pieces) + b"]"
+        last = np.zeros(ends[-1] - ends[0], dtype=bool)
+        last[ends[1:] - ends[0] - 1] = True
+        pieces.append(_spelled(rows[ends[0] : ends[-1]], last))
+    return b"[[" + b",[".join(pieces) + b"]"
+
+
+def _with_empty_lists(rows: Places, starts: Integers) -> bytes:
+    cuts = starts.tolist()
+    pairs = zip(cuts, cuts[1:], strict=False)
+    return b"[" + b",".join(positions_text(rows[a:b]) for a, b in pairs) + b"]"
+
+
+def positions_text(rows: Places) -> bytes:
+    """Give positions as a JSON list."""
+    return b"[" + _spelled(rows, np.zeros(len(rows), dtype=bool))[:-1] + b"]"
+
+
+def _spelled(rows: Places, last: npt.NDArray[np.bool_]) -> bytes:
+    """Spell positions, each with a comma behind it; where ``last``, the list ends there.
+
+    All but the last list's end are followed by ``,[``. Numbers have at most twelve digits.
+    """
+    if not len(rows):
+        return b""
+    heads = np.zeros((2, len(rows), 2), dtype=np.uint8)
+    heads[0, :, 0], heads[1, :, 0] = _OPEN, _COMMA
+    heads[..., 1] = np.where(rows.T < 0, _MINUS, 0)
+    ends = np.zeros((len(rows), 4), dtype=np.uint8)
+    ends[:, 0], ends[:, 1] = _CLOSE, _COMMA
+    ends[last] = (_CLOSE, _CLOSE, _COMMA, _OPEN)
+    if last[-1]:
+        ends[-1] = (_CLOSE, _CLOSE, 0, 0)
+    numbers = np.abs(rows)
+    columns = (heads[0], _digits(numbers[:, 0]), heads[1], _digits(numbers[:, 1]), ends)
+    return np.concatenate(columns, axis=1).tobytes().translate(None, b"\0")
+
+
+def _digits(numbers: Integers) -> npt.NDArray[np.uint8]:
+    """Give a row of ASCII digits for each number from 0 to 10^12, with bytes 0 before them."""
+    wide = (len(str(int(numbers.max()))) + 3) // 4
+    fours = np.empty((len(numbers), wide), dtype=np.uint32)
+    left = numbers
+    for at in range(wide - 1, -1, -1):
+        more = left // 10_000
+        table = _LOWEST_FOUR if at == wide - 1 else _OTHER_FOUR
+        fours[:, at] = table[left - more * 10_000 + 10_000 * (more > 0)]
+        left = more
+    return fours.view(np.uint8)
+
+
+def _fours(zero: bytes) -> npt.NDArray[np.uint32]:
+    """Give four bytes for each number below 10,000: as the first digits, then as later ones."""
+    first = [zero, *(b"%d" % number for number in range(1, 10_000))]
+    later = [b"%04d" % number for number in range(10_000)]
+    whole = b"".join(digits.rjust(4, b"\0") for digits in first + later)
+    return np.frombuffer(whole, dtype=np.uint32)
 
 
 def _lone_twice(places: Places, starts: Integers) -> tuple[Places, Integers]:
@@ -162,7 +313,8 @@ def _lone_twice(places: Places, starts: Integers) -> tuple[Places, Integers]:
 
 _CHUNK = 20_000
 _NUMBERS = re.compile(r"[-+\[\]\d\s,.eE]+")
-_OPEN, _CLOSE = ord("["), ord("]")
+_OPEN, _CLOSE, _COMMA, _MINUS = ord("["), ord("]"), ord(","), ord("-")
+_LOWEST_FOUR, _OTHER_FOUR = _fours(b"0"), _fours(b"")
 _BLANKS = bytes.maketrans(b"[],\t\r\n", b"      ")
 
 
@@ -255,6 +407,20 @@ def _end_of_numbers(shown: str, at: int) -> int:
     if match is None:
         raise json.JSONDecodeError("arcs expected", shown, at)
     return at + len(match.group().rstrip(" \t\r\n,"))
+
+
+def read_thinned(before: Topology, source: tuple[bytes, bytes, bytes], text: bytes) -> Topology:
+    """Read a text that differs from ``source`` (as ``text_parts`` gives it) only in its arcs.
+
+    Where it differs elsewhere it is read as any other. Raises NotUtf8, NotJson or NotATopology.
+    """
+    low, high = len(source[0]), len(text) - len(source[2])
+    if high < low or not (text.startswith(source[0]) and text.endswith(source[2])):
+        return read(text)
+    places, starts = read_arcs(text[low:high], low)
+    if before.is_coded:
+        places = _undo_differences(places, starts)
+    return before.with_arcs(places, starts)
 
 
 def read_arcs(text: bytes, at: int = 0) -> tuple[Places, Integers]:

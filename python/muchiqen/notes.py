@@ -1,0 +1,183 @@
+"""What the report says of a map's faults: overlaps, gaps, invalid rows, towns, and why arcs are held.
+
+All of it is told from the map, before and after, and nothing is taken from the command's word but
+that a map which it thinned without ``--hold`` is arranged.
+"""
+
+from collections.abc import Sequence
+from dataclasses import replace
+from typing import TYPE_CHECKING, Any
+
+import geopandas as gpd
+import numpy as np
+from shapely.geometry import LineString, Point
+
+from . import survey
+from .build import keys_of
+from .errors import NotConfirmed
+from .meetings import Held
+from .shapes import Flags, are_valid
+from .sides import Sides, close_to, held, rows_named
+from .topology import Integers, Topology, starts_of
+
+if TYPE_CHECKING:
+    from .thin import Work
+
+_CLOSE = 2
+"""Snapping moves a town and an edge together by less than so many grid steps on each axis."""
+
+
+def with_causes(held: list[Held], work: "Work") -> list[Held]:
+    """Say of each meeting whether the edges met before snapping."""
+    if work.rings is None:
+        return held
+    origin = _Origins(work)
+    return [origin.judged(meeting) for meeting in held]
+
+
+class _Origins:
+    """Finds where the places on the grid came from."""
+
+    def __init__(self, work: "Work") -> None:
+        assert work.rings is not None
+        self._topology = work.topology.without_repeats()
+        places = work.topology.grid.snap(work.rings.coordinates)
+        keys = keys_of(places).tolist()
+        self._found = dict(zip(keys, work.rings.coordinates.tolist(), strict=True))
+        self._towns = work.town_coordinates
+
+    def _edge(self, arc: int, edge: int) -> Any:
+        places = self._topology.arc(arc)[edge : edge + 2]
+        return LineString([self._found[key] for key in keys_of(places).tolist()])
+
+    def judged(self, held: Held) -> Held:
+        own = self._edge(held.arc, held.edges[0])
+        if held.kind == "has a town on it":
+            other = Point(self._towns[held.other])
+            return replace(held, by_snapping=own.distance(other) > 0)
+        return replace(held, by_snapping=not own.intersects(self._edge(held.other, held.edges[1])))
+
+
+def fault_notes(work: "Work", tolerance: float, arranged: bool) -> list[str]:
+    """Say which rows overlap and where gaps are narrow, on the grid before thinning."""
+    labels = polygon_labels(work)
+    sides = Sides(work.topology.without_repeats())
+    pairs = survey.overlapping(work.topology, arranged=arranged, sides=sides)
+    notes = [f"rows {labels[a]} and {labels[b]} overlap" for a, b in pairs[:20]]
+    if len(pairs) > 20:
+        notes.append(f"{len(pairs) - 20} more pairs of rows overlap")
+    gaps = survey.narrow_gaps(work.topology, tolerance, arranged=arranged, sides=sides)
+    for gap in gaps[:10]:
+        x, y = gap.representative_point().coords[0]
+        notes.append(f"a gap narrower than the tolerance near ({x:g}, {y:g}), area {gap.area:g}")
+    if len(gaps) > 10:
+        notes.append(f"{len(gaps) - 10} more gaps narrower than the tolerance")
+    return notes
+
+
+def polygon_labels(work: "Work") -> list[Any]:
+    """Give the labels of the polygons, by number: of the rows that are on the grid."""
+    if work.frame is None:
+        return list(range(work.topology.named.count))
+    return work.frame.index[work.on_grid].tolist()
+
+
+def after_notes(work: "Work", frame: gpd.GeoDataFrame) -> list[str]:
+    """Say which rows shapely finds invalid, and whether they came so.
+
+    Raises NotConfirmed where a row was valid before thinning and is not after.
+    """
+    bad = np.flatnonzero(~_valid(frame))
+    if not len(bad):
+        return []
+    snapped = _valid(work.rows_of(work.topology, bad))
+    before = snapped if work.frame is None else _valid(work.frame.iloc[bad])
+    labels = frame.index[bad].tolist()
+    fresh = [label for label, valid in zip(labels, snapped.tolist(), strict=True) if valid]
+    if fresh:
+        raise NotConfirmed(f"rows {fresh[:5]} are valid before thinning and not after")
+    return [
+        f"row {label}: the polygon crosses or touches itself"
+        + (", only once on the grid" if valid else ", as it came")
+        for label, valid in zip(labels[:20], before[:20].tolist(), strict=True)
+    ]
+
+
+def _valid(frame: gpd.GeoDataFrame) -> Flags:
+    return are_valid(np.asarray(frame.geometry.array.data, dtype=object))
+
+
+def town_notes(work: "Work", after: Topology) -> list[str]:
+    """Compare which rows hold each town: as they came, on the grid, and thinned.
+
+    Raises NotConfirmed where thinning changed one.
+    """
+    count = len(work.town_coordinates)
+    if not count:
+        return []
+    rows = rows_named(work.topology)
+    towns = work.topology.points()[-count:]
+    on_grid = held(work.topology.places, work.topology.starts, rows, towns)
+    thinned = held(after.places, after.starts, rows, towns)
+    if not all(np.array_equal(a, b) for a, b in zip(on_grid, thinned, strict=True)):
+        before, now = _lists(on_grid, count), _lists(thinned, count)
+        changed = [x for x, a, b in zip(work.town_labels, before, now, strict=True) if a != b]
+        raise NotConfirmed(f"towns {changed[:5]} are in other rows after thinning")
+    outside = np.bincount(on_grid[0], minlength=count) == 0
+    notes = _moved_notes(work, on_grid, outside) if work.rings is not None else []
+    if outside.any():
+        some = [work.town_labels[at] for at in np.flatnonzero(outside)[:6]]
+        notes.append(f"{outside.sum()} towns are in no row: {_some(some)}")
+    return notes
+
+
+def _moved_notes(work: "Work", on_grid: tuple[Integers, Integers], outside: Flags) -> list[str]:
+    """Say which towns go to other rows by snapping; make ``outside`` as they came.
+
+    Only a town close to an edge can: all others are looked at on the grid alone.
+    """
+    towns = np.flatnonzero(_may_move(work))
+    if not len(towns):
+        return []
+    labels, notes = polygon_labels(work), []
+    came = _lists(_held_as_they_came(work, towns), len(towns))
+    close = np.isin(on_grid[0], towns)
+    snapped = _lists((np.searchsorted(towns, on_grid[0][close]), on_grid[1][close]), len(towns))
+    for town, first, then in zip(towns.tolist(), came, snapped, strict=True):
+        outside[town] = not first
+        if first != then:
+            ways = f"from {_names(labels, first)} to {_names(labels, then)}"
+            notes.append(f"town {work.town_labels[town]}: snapping takes it {ways}")
+    return notes
+
+
+def _may_move(work: "Work") -> Flags:
+    count = len(work.town_coordinates)
+    if work.lost_rings:
+        return np.ones(count, dtype=bool)
+    return close_to(work.topology, work.topology.points()[-count:], _CLOSE)
+
+
+def _held_as_they_came(work: "Work", towns: Integers) -> tuple[Integers, Integers]:
+    assert work.rings is not None
+    layout = work.rings.layout
+    first = layout.ring_starts
+    rings = np.flatnonzero(work.on_grid[layout.row_of_rings])
+    rows = rings, starts_of(np.diff(first)[work.on_grid])
+    points = work.town_coordinates[towns]
+    return held(work.rings.coordinates, work.rings.starts, rows, points)
+
+
+def _lists(pairs: tuple[Integers, Integers], count: int) -> list[list[int]]:
+    found: list[list[int]] = [[] for _ in range(count)]
+    for town, row in zip(pairs[0].tolist(), pairs[1].tolist(), strict=True):
+        found[town].append(row)
+    return found
+
+
+def _names(index: list[Any], rows: list[int]) -> str:
+    return "no row" if not rows else "row " + " and ".join(str(index[row]) for row in rows)
+
+
+def _some(labels: Sequence[Any]) -> str:
+    return ", ".join(str(label) for label in labels[:5]) + (" .." if len(labels) > 5 else "")
