@@ -10,6 +10,7 @@ import signal
 import subprocess
 from collections.abc import Sequence
 from dataclasses import dataclass
+from functools import lru_cache
 from pathlib import Path
 
 from .errors import (
@@ -60,9 +61,18 @@ def find(program: str | os.PathLike[str] | None = None) -> Path:
 
 def _in_memory(text: bytes) -> int:
     handle = os.memfd_create("muchiqen")
-    with os.fdopen(os.dup(handle), "wb") as file:
-        file.write(text)
+    left = memoryview(text)
+    while left:
+        left = left[os.write(handle, left) :]
+    os.lseek(handle, 0, os.SEEK_SET)
     return handle
+
+
+def _whole(handle: int) -> bytes:
+    size = os.lseek(handle, 0, os.SEEK_END)
+    os.lseek(handle, 0, os.SEEK_SET)
+    with os.fdopen(os.dup(handle), "rb") as file:
+        return file.read(size)
 
 
 def run(
@@ -76,15 +86,19 @@ def run(
     """
     handles: list[int] = []
     try:
-        handles += [_in_memory(other) for other in others]
-        names = [f"/dev/fd/{handle}" for handle in handles]
+        for one in (text, b"", b"", *others):
+            handles.append(_in_memory(one))
+        source, out, note, *more = handles
+        names = [f"/dev/fd/{handle}" for handle in more]
         done = subprocess.run(
             [program, *words, *names],
-            input=text,
-            capture_output=True,
-            pass_fds=handles,
+            stdin=source,
+            stdout=out,
+            stderr=note,
+            pass_fds=more,
             check=False,
         )
+        written, noted = _whole(out), _whole(note)
     except OSError as error:
         raise ProgramNotFound(f"{program} ({error.strerror})") from error
     finally:
@@ -93,9 +107,21 @@ def run(
     if done.returncode < 0:
         raise ProgramKilled(signal.Signals(-done.returncode).name)
     if done.returncode > 0:
-        note = done.stderr.decode(errors="replace")
-        raise of_status(done.returncode, note, done.stdout[:200].decode(errors="replace"))
-    return done.stdout
+        said = noted.decode(errors="replace")
+        raise of_status(done.returncode, said, written[:200].decode(errors="replace"))
+    return written
+
+
+@lru_cache(maxsize=64)
+def _knows_build(program: Path, stamp: int) -> bool:
+    """Tell whether a program, as it stood at its time of change, knows the form ``build``."""
+    try:
+        run(program, ["build", "-"], b"{}")
+    except Usage:
+        return False
+    except NotGeoJson:
+        return True
+    return True
 
 
 def _options(bound: int, hold: bool, weights: Weights | None) -> list[str]:
@@ -170,11 +196,9 @@ class Command:
         return run(self.program, ["build", "-"], text)
 
     def has_build(self) -> bool:
-        """Tell whether this program knows the form ``build``."""
+        """Tell whether this program knows the form ``build``; it is asked once."""
         try:
-            self.build(b"{}")
-        except NotGeoJson:
-            return True
-        except Usage:
-            return False
-        return True
+            stamp = os.stat(self.program).st_mtime_ns
+        except OSError as error:
+            raise ProgramNotFound(f"{self.program} ({error.strerror})") from error
+        return _knows_build(self.program, stamp)

@@ -15,6 +15,7 @@ from .shapes import Flags
 from .topology import Integers, Topology, starts_of, within
 
 _PAIRS = 2_000_000
+_BLOCK = 16
 
 
 class Sides:
@@ -131,16 +132,11 @@ class Sides:
 
         ``weight`` is by how much a line covers its left more than its right.
         """
-        starts = self.topology.starts
-        counts = np.diff(starts)[lines] - 1
-        edge = np.repeat(starts[lines], counts) + within(counts)
-        a, b = 2 * self.topology.places[edge], 2 * self.topology.places[edge + 1]
-        weights = np.repeat(weight, counts)
-        weights = np.where(_is_before(a, b), weights, -weights)
+        blocks = Blocks(2 * self.topology.places, self.topology.starts, lines)
         found = np.zeros(len(arcs), dtype=np.int64)
-        shift = np.repeat(of, counts), groups
-        for edge, point in crossed(a, b, self.middles(arcs), shift):
-            found -= np.bincount(point, weights[edge], len(arcs)).astype(np.int64)
+        for block, point, way in crossings(blocks, self.middles(arcs), (of[blocks.of], groups)):
+            weights = way * weight[blocks.of[block]]
+            found -= np.bincount(point, weights, len(arcs)).astype(np.int64)
         return found
 
 
@@ -160,30 +156,98 @@ def _is_before(a: Any, b: Any) -> Flags:
     return np.asarray((a[:, 0] < b[:, 0]) | ((a[:, 0] == b[:, 0]) & (a[:, 1] < b[:, 1])))
 
 
-def crossed(
-    a: Any, b: Any, points: Any, groups: tuple[Integers, Integers] | None = None
-) -> Iterator[tuple[Integers, Integers]]:
-    """Give, in runs, pairs of an edge from a to b and a point whose ray crosses it.
+class Blocks:
+    """Runs of up to sixteen edges of some lines, and the boxes round them.
 
-    With ``groups``, of the edges and of the points, only pairs of one group are looked at; whole
-    coordinates then are below 2^31.
+    Block i has the positions ``first[i]`` to ``last[i]``, both in it, of line ``line[i]``.
     """
-    right = _is_before(a, b)[:, None]
-    (ax, ay), (bx, by) = _columns(np.where(right, a, b)), _columns(np.where(right, b, a))
-    low, high, place = ax, bx, points[:, 0]
+
+    def __init__(self, coordinates: Any, starts: Integers, lines: Integers) -> None:
+        edges = np.maximum(np.diff(starts)[lines] - 1, 0)
+        counts = -(-edges // _BLOCK)
+        number = within(counts)
+        self.of = np.repeat(np.arange(len(lines)), counts)
+        self.line = lines[self.of]
+        self.first = starts[self.line] + number * _BLOCK
+        self.last = np.minimum(self.first + _BLOCK, starts[self.line + 1] - 1)
+        self.x, self.y = _columns(coordinates)
+        self.left, self.right = self._ends_of(self.x)
+        self.low, self.high = self._ends_of(self.y)
+
+    def _ends_of(self, values: Any) -> tuple[Any, Any]:
+        """Give the least and the greatest value in each block."""
+        if not len(self.first):
+            return values[:0], values[:0]
+        counts = self.last - self.first + 1
+        at = np.repeat(self.first, counts) + within(counts)
+        firsts = starts_of(counts)[:-1]
+        return np.minimum.reduceat(values[at], firsts), np.maximum.reduceat(values[at], firsts)
+
+    def edges(self, block: Integers, point: Integers) -> tuple[Integers, Integers, Integers]:
+        """Give, for pairs of a block and a point, the block, the edge and the point of each edge."""
+        counts = (self.last - self.first)[block]
+        edge = np.repeat(self.first[block], counts) + within(counts)
+        return np.repeat(block, counts), edge, np.repeat(point, counts)
+
+
+def crossings(
+    blocks: Blocks, points: Any, groups: tuple[Integers, Integers] | None = None
+) -> Iterator[tuple[Integers, Integers, Integers]]:
+    """Give, in runs, blocks, points whose ray crosses them, and which way the ray is crossed.
+
+    The third is 1 where a line crosses the ray to the right, -1 where it does so to the left; what
+    crosses to and fro within a block may be left out in pairs. With ``groups``, of the blocks and
+    of the points, only pairs of one group are looked at; whole coordinates then are below 2^31.
+    """
+    left, right, place = blocks.left, blocks.right, points[:, 0]
     if groups is not None:
-        low, high, place = ax + (groups[0] << 32), bx + (groups[0] << 32), place + (groups[1] << 32)
+        shift = groups[0] << 32
+        left, right, place = left + shift, right + shift, place + (groups[1] << 32)
     order = np.argsort(place, kind="stable")
     px, py = _columns(points[order])
-    top = np.maximum(ay, by)
-    for edge, point in _pairs(low, high, place[order]):
-        maybe = top[edge] >= py[point]
-        edge, point = edge[maybe], point[maybe]
-        x, y, x0, y0, x1, y1 = px[point], py[point], ax[edge], ay[edge], bx[edge], by[edge]
-        hit = (x0 < x) | ((x0 == x) & (y0 < y))
-        hit &= (x < x1) | ((x == x1) & (y < y1))
-        hit &= (x1 - x0) * (y - y0) < (y1 - y0) * (x - x0)
-        yield edge[hit], order[point[hit]]
+    for block, point in _pairs(left, right, place[order]):
+        y = py[point]
+        over, beside = blocks.low[block] > y, blocks.high[block] >= y
+        beside &= ~over
+        for pairs in (
+            _over(blocks, block[over], point[over], px, py),
+            _beside(blocks, block[beside], point[beside], px, py),
+        ):
+            yield pairs[0], order[pairs[1]], pairs[2]
+
+
+def _over(
+    blocks: Blocks, block: Integers, point: Integers, px: Any, py: Any
+) -> tuple[Integers, Integers, Integers]:
+    """Of blocks over the points: those with ends on both sides of the ray."""
+    x, y = px[point], py[point]
+    first, last = blocks.first[block], blocks.last[block]
+    begins = _comes_before(blocks.x[first], blocks.y[first], x, y)
+    ends = _comes_before(blocks.x[last], blocks.y[last], x, y)
+    hit = begins != ends
+    return block[hit], point[hit], np.where(begins[hit], 1, -1)
+
+
+def _beside(
+    blocks: Blocks, block: Integers, point: Integers, px: Any, py: Any
+) -> tuple[Integers, Integers, Integers]:
+    """Of blocks in whose boxes the points are: edge by edge."""
+    block, edge, point = blocks.edges(block, point)
+    x, y = px[point], py[point]
+    x0, y0, x1, y1 = blocks.x[edge], blocks.y[edge], blocks.x[edge + 1], blocks.y[edge + 1]
+    right = _comes_before(x0, y0, x, y) & _comes_before(x, y, x1, y1)
+    left = _comes_before(x1, y1, x, y) & _comes_before(x, y, x0, y0)
+    at = np.flatnonzero(right | left)
+    x, y, right = x[at], y[at], right[at]
+    ax, bx = np.where(right, x0[at], x1[at]), np.where(right, x1[at], x0[at])
+    ay, by = np.where(right, y0[at], y1[at]), np.where(right, y1[at], y0[at])
+    hit = (bx - ax) * (y - ay) < (by - ay) * (x - ax)
+    at = at[hit]
+    return block[at], point[at], np.where(right[hit], 1, -1)
+
+
+def _comes_before(x: Any, y: Any, u: Any, v: Any) -> Flags:
+    return np.asarray((x < u) | ((x == u) & (y < v)))
 
 
 def close_to(topology: Topology, points: Places, margin: int) -> Flags:
@@ -191,21 +255,21 @@ def close_to(topology: Topology, points: Places, margin: int) -> Flags:
 
     No point that is so close is told apart; one told close may be a little further away.
     """
-    line = np.repeat(np.arange(topology.arc_count), np.diff(topology.starts))
-    edges = np.flatnonzero(line[1:] == line[:-1])
-    (ax, ay), (bx, by) = _columns(topology.places[edges]), _columns(topology.places[edges + 1])
-    low, high = np.minimum(ay, by) - margin, np.maximum(ay, by) + margin
-    across, up = bx - ax, by - ay
-    reach = margin * (np.abs(across) + np.abs(up))
+    blocks = Blocks(topology.places, topology.starts, np.arange(topology.arc_count))
     order = np.argsort(points[:, 0], kind="stable")
     px, py = _columns(points[order])
     close = np.zeros(len(points), dtype=bool)
-    for edge, point in _pairs(np.minimum(ax, bx) - margin, np.maximum(ax, bx) + margin, px):
+    for block, point in _pairs(blocks.left - margin, blocks.right + margin, px):
         y = py[point]
-        maybe = (low[edge] <= y) & (y <= high[edge])
-        edge, point = edge[maybe], point[maybe]
-        turn = across[edge] * (py[point] - ay[edge]) - up[edge] * (px[point] - ax[edge])
-        close[order[point[np.abs(turn) <= reach[edge]]]] = True
+        beside = (blocks.low[block] - margin <= y) & (y <= blocks.high[block] + margin)
+        _, edge, point = blocks.edges(block[beside], point[beside])
+        x, y = px[point] - blocks.x[edge], py[point] - blocks.y[edge]
+        across = blocks.x[edge + 1] - blocks.x[edge]
+        up = blocks.y[edge + 1] - blocks.y[edge]
+        near = (np.minimum(across, 0) - margin <= x) & (x <= np.maximum(across, 0) + margin)
+        near &= (np.minimum(up, 0) - margin <= y) & (y <= np.maximum(up, 0) + margin)
+        near &= np.abs(across * y - up * x) <= margin * (np.abs(across) + np.abs(up))
+        close[order[point[near]]] = True
     return close
 
 
@@ -214,25 +278,24 @@ def _columns(rows: Any) -> tuple[Any, Any]:
 
 
 def _pairs(low: Any, high: Any, place: Any) -> Iterator[tuple[Integers, Integers]]:
-    """Give, in runs, pairs of an edge and a point that is from its low to its high; rising."""
+    """Give, in runs, pairs of a block and a point that is from its low to its high; rising."""
     first = np.searchsorted(place, low, "left")
     counts = np.searchsorted(place, high, "right") - first
     worth = np.flatnonzero(counts > 0)
     for start, end in _chunks(counts[worth]):
         some = worth[start:end]
-        edge = np.repeat(some, counts[some])
-        yield edge, np.repeat(first[some], counts[some]) + within(counts[some])
+        block = np.repeat(some, counts[some])
+        yield block, np.repeat(first[some], counts[some]) + within(counts[some])
 
 
 def crossed_arcs(
-    coordinates: Any, starts: Integers, points: Any, used: Flags
+    coordinates: Any, starts: Integers, points: Any, lines: Integers
 ) -> tuple[Integers, Integers]:
-    """Give the used lines, rising, and beside each a point whose ray crosses it an odd time."""
-    line = np.repeat(np.arange(len(starts) - 1), np.diff(starts))
-    edges = np.flatnonzero((line[1:] == line[:-1]) & used[line[1:]])
+    """Give lines, rising, and beside each a point whose ray crosses it an odd number of times."""
+    blocks = Blocks(coordinates, starts, lines)
     pieces = [np.empty(0, dtype=np.int64)]
-    for edge, point in crossed(coordinates[edges], coordinates[edges + 1], points):
-        pieces.append(line[edges[edge]] * len(points) + point)
+    for block, point, _ in crossings(blocks, points):
+        pieces.append(blocks.line[block] * len(points) + point)
     pairs = odd_times(np.sort(np.concatenate(pieces)))
     return pairs // max(len(points), 1), pairs % max(len(points), 1)
 
@@ -247,7 +310,7 @@ def held(
     named, row_starts = rows
     used = np.zeros(len(starts) - 1, dtype=bool)
     used[named] = True
-    lines, odd = crossed_arcs(coordinates, starts, points, used)
+    lines, odd = crossed_arcs(coordinates, starts, points, np.flatnonzero(used))
     row = np.repeat(np.arange(len(row_starts) - 1), np.diff(row_starts))
     first, last = np.searchsorted(lines, named), np.searchsorted(lines, named, "right")
     counts = last - first

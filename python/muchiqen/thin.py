@@ -33,7 +33,7 @@ from .meetings import why_held
 from .notes import after_notes, fault_notes, town_notes, with_causes
 from .report import Report
 from .shapes import Flags, Layout, Objects
-from .topology import Integers, Named, Topology, read, read_thinned
+from .topology import Integers, Named, PositionList, Topology, read, read_thinned
 from .towns import towns_of
 
 Program = str | os.PathLike[str] | Command | None
@@ -331,7 +331,7 @@ def _with_towns(topology: Topology, towns: Places) -> Topology:
     name = "towns"
     while name in topology.objects:
         name += "_"
-    objects = {**topology.objects, name: {"type": "MultiPoint", "coordinates": towns.tolist()}}
+    objects = {**topology.objects, name: {"type": "MultiPoint", "coordinates": PositionList(towns)}}
     members = {**topology.members, "objects": objects}
     return Topology(topology.places, topology.starts, members, topology.place_of_arcs)
 
@@ -407,7 +407,7 @@ def make_topology(
         raise NotConfirmed("the topology has its rings in other parts")
     objects: dict[str, Any] = {"rows": {"type": "GeometryCollection", "geometries": geometries}}
     if towns is not None:
-        objects["towns"] = {"type": "MultiPoint", "coordinates": towns.tolist()}
+        objects["towns"] = {"type": "MultiPoint", "coordinates": PositionList(towns)}
     transform = {"scale": list(grid.scale), "translate": list(grid.translate)}
     members = {"type": "Topology", "transform": transform, "objects": objects}
     return Topology(topology.places, topology.starts, members).naming(named), built_by

@@ -6,7 +6,7 @@ import warnings
 from collections.abc import Iterator
 from dataclasses import dataclass, field
 from functools import cached_property
-from itertools import chain
+from itertools import chain, groupby
 from typing import Any
 
 import numpy as np
@@ -68,6 +68,14 @@ class Named:
         return np.repeat(np.arange(len(self.starts) - 1), np.diff(self.starts))
 
 
+class PositionList(list[list[int]]):
+    """A list of positions as JSON has it, that knows them as an array too."""
+
+    def __init__(self, places: Places) -> None:
+        super().__init__(places.tolist())
+        self.places = places
+
+
 @dataclass
 class Topology:
     """Arcs, objects and grid of a TopoJSON text.
@@ -123,13 +131,11 @@ class Topology:
 
     @cached_property
     def _points(self) -> Places:
-        rows: list[list[float]] = []
-        for geometry in walk(self.objects):
-            if geometry["type"] == "Point":
-                rows.append(geometry["coordinates"])
-            elif geometry["type"] == "MultiPoint":
-                rows += geometry["coordinates"]
-        return np.array(rows, dtype=np.int64).reshape(-1, 2)
+        pieces = [np.empty((0, 2), dtype=np.int64)]
+        for kind, found in groupby(walk(self.objects), key=lambda geometry: geometry["type"]):
+            rows = [geometry["coordinates"] for geometry in found if kind in ("Point", "MultiPoint")]
+            pieces += [_places_of(rows)] if kind == "Point" else map(_places_of, rows)
+        return np.concatenate(pieces)
 
     def with_arcs(self, places: Places, starts: Integers) -> "Topology":
         """Give the same topology with other arcs."""
@@ -178,12 +184,15 @@ def _object(shape: Any) -> bytes:
     if list(shape) != ["type", "coordinates"] or shape["type"] != "MultiPoint":
         return _compact(shape)
     rows = shape["coordinates"]
-    if not rows or not all(len(row) == 2 for row in rows):
+    if not isinstance(rows, PositionList):
         return _compact(shape)
-    places = np.array(rows)
-    if places.dtype != np.int64:
-        return _compact(shape)
-    return b'{"type":"MultiPoint","coordinates":' + positions_text(places) + b"}"
+    return b'{"type":"MultiPoint","coordinates":' + positions_text(rows.places) + b"}"
+
+
+def _places_of(rows: list[list[int]]) -> Places:
+    if isinstance(rows, PositionList):
+        return rows.places
+    return np.array(rows, dtype=np.int64).reshape(-1, 2)
 
 
 def walk(objects: dict[str, Any]) -> Iterator[dict[str, Any]]:
