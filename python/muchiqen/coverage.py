@@ -10,7 +10,7 @@ import pandas as pd
 from shapely.geometry import MultiPolygon, Polygon
 
 from .errors import NotACoverage
-from .grid import Coordinates, Grid, Places
+from .grid import Coordinates, Grid, Places, extent
 from .shapes import Flags, Layout, take_apart
 from .topology import Integers, lists_text, positions_text, starts_of
 
@@ -115,7 +115,7 @@ def snapped(rings: Rings, grid: Grid, labels: list[Any]) -> Snapped:
     """
     places = grid.snap(rings.coordinates)
     moves = grid.moves(rings.coordinates, places)
-    moved = moves.max(axis=0) if len(moves) else (0.0, 0.0)
+    moved = extent(moves)[1] if len(moves) else (0.0, 0.0)
     keep = _without_repeats(places, rings.starts)
     starts = starts_of(keep)[rings.starts]
     places = places[keep]
@@ -169,7 +169,9 @@ def _joined_notes(coordinates: Coordinates, places: Places) -> list[str]:
     numbers, _ = pd.factorize((places[:, 0] << 31) + places[:, 1])
     some = np.empty(len(places), dtype=np.int64)
     some[numbers] = np.arange(len(places))
-    differs = (coordinates != coordinates[some[numbers]]).any(axis=1)
+    others = some[numbers]
+    x, y = coordinates[:, 0], coordinates[:, 1]
+    differs = (x != x[others]) | (y != y[others])
     if not differs.any():
         return []
     mixed = np.zeros(len(places), dtype=bool)

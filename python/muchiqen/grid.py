@@ -39,7 +39,7 @@ class Grid:
     def snap(self, coordinates: Coordinates) -> Places:
         """Give the nearest places. Raises BadGrid where one is off the grid."""
         places = np.rint((coordinates - self.translate) / self.scale)
-        if places.size and not np.abs(places).max() <= EDGE:
+        if places.size and not np.abs(extent(places)).max() <= EDGE:
             raise BadGrid(f"the map reaches past {EDGE} steps of {self.scale}")
         return np.asarray(places, dtype=np.int64)
 
@@ -81,15 +81,21 @@ def choose(coordinates: Coordinates, tolerance: float, most_weight: int = 1) -> 
     """
     if not len(coordinates):
         return Grid()
-    low, high = coordinates.min(axis=0), coordinates.max(axis=0)
+    low, high = extent(coordinates)
     span = float((high - low).max()) or 1.0
     room = EDGE / most_weight * 0.99
     fine = _power_below(min(tolerance / 100, span / 1000)) if tolerance > 0 else 0.0
     step = max(fine, _power_above(span / 2 / room))
-    if float(np.abs(coordinates).max()) / step <= room:
+    if float(np.abs((low, high)).max()) / step <= room:
         return Grid((step, step))
     middle = np.rint((low + high) / 2 / step) * step
     return Grid((step, step), (float(middle[0]), float(middle[1])))
+
+
+def extent(coordinates: Coordinates) -> tuple[Coordinates, Coordinates]:
+    """Give the least and the greatest x and y of some positions."""
+    columns = [coordinates[:, axis] for axis in (0, 1)]
+    return np.array([c.min() for c in columns]), np.array([c.max() for c in columns])
 
 
 def _power_below(value: float) -> float:

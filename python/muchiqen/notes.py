@@ -15,10 +15,11 @@ from shapely.geometry import LineString, Point
 from . import survey
 from .build import keys_of
 from .errors import NotConfirmed
+from .grid import Places
 from .meetings import Held
-from .shapes import Flags, are_valid
-from .sides import Sides, close_to, held, rows_named
-from .topology import Integers, Topology, starts_of
+from .shapes import Flags, Objects, are_valid
+from .sides import Sides, close_to, held, in_boxes, rows_named, thinned_boxes
+from .topology import Integers, Topology, starts_of, within
 
 if TYPE_CHECKING:
     from .thin import Work
@@ -87,11 +88,11 @@ def after_notes(work: "Work", frame: gpd.GeoDataFrame) -> list[str]:
 
     Raises NotConfirmed where a row was valid before thinning and is not after.
     """
-    bad = np.flatnonzero(~_valid(frame))
+    bad = np.flatnonzero(~are_valid(_shapes_of(frame)))
     if not len(bad):
         return []
-    snapped = _valid(work.rows_of(work.topology, bad))
-    before = snapped if work.frame is None else _valid(work.frame.iloc[bad])
+    snapped = are_valid(work.shapes_of(work.topology, bad))
+    before = snapped if work.frame is None else are_valid(_shapes_of(work.frame)[bad])
     labels = frame.index[bad].tolist()
     fresh = [label for label, valid in zip(labels, snapped.tolist(), strict=True) if valid]
     if fresh:
@@ -103,8 +104,8 @@ def after_notes(work: "Work", frame: gpd.GeoDataFrame) -> list[str]:
     ]
 
 
-def _valid(frame: gpd.GeoDataFrame) -> Flags:
-    return are_valid(np.asarray(frame.geometry.array.data, dtype=object))
+def _shapes_of(frame: gpd.GeoDataFrame) -> Objects:
+    return np.asarray(frame.geometry.array.data, dtype=object)
 
 
 def town_notes(work: "Work", after: Topology) -> list[str]:
@@ -118,54 +119,85 @@ def town_notes(work: "Work", after: Topology) -> list[str]:
     rows = rows_named(work.topology)
     towns = work.topology.points()[-count:]
     on_grid = held(work.topology.places, work.topology.starts, rows, towns)
-    thinned = held(after.places, after.starts, rows, towns)
-    if not all(np.array_equal(a, b) for a, b in zip(on_grid, thinned, strict=True)):
-        before, now = _lists(on_grid, count), _lists(thinned, count)
-        changed = [x for x, a, b in zip(work.town_labels, before, now, strict=True) if a != b]
+    some = _may_change(work.topology, after, towns)
+    thinned = held(after.places, after.starts, rows, towns[some])
+    wanted = _of_towns(on_grid, some)
+    if not all(np.array_equal(a, b) for a, b in zip(wanted, thinned, strict=True)):
+        before, now = _lists(wanted, len(some)), _lists(thinned, len(some))
+        pairs = zip(some.tolist(), before, now, strict=True)
+        changed = [work.town_labels[town] for town, a, b in pairs if a != b]
         raise NotConfirmed(f"towns {changed[:5]} are in other rows after thinning")
     outside = np.bincount(on_grid[0], minlength=count) == 0
-    notes = _moved_notes(work, on_grid, outside) if work.rings is not None else []
+    notes = _moved_notes(work, towns, on_grid, outside) if work.rings is not None else []
     if outside.any():
-        some = [work.town_labels[at] for at in np.flatnonzero(outside)[:6]]
-        notes.append(f"{outside.sum()} towns are in no row: {_some(some)}")
+        labels = [work.town_labels[at] for at in np.flatnonzero(outside)[:6]]
+        notes.append(f"{outside.sum()} towns are in no row: {_some(labels)}")
     return notes
 
 
-def _moved_notes(work: "Work", on_grid: tuple[Integers, Integers], outside: Flags) -> list[str]:
+def _may_change(before: Topology, after: Topology, towns: Places) -> Integers:
+    """Give the towns that thinning can have brought elsewhere: those beside a run that it cut."""
+    boxes = thinned_boxes(before, after)
+    if boxes is None:
+        return np.arange(len(towns))
+    beside = np.zeros(len(towns), dtype=bool)
+    for _, town in in_boxes(*boxes, towns):
+        beside[town] = True
+    return np.flatnonzero(beside)
+
+
+def _of_towns(pairs: tuple[Integers, Integers], towns: Integers) -> tuple[Integers, Integers]:
+    """Give the pairs of some towns (rising), which take their place among those for their number."""
+    there = np.isin(pairs[0], towns)
+    return np.searchsorted(towns, pairs[0][there]), pairs[1][there]
+
+
+def _moved_notes(
+    work: "Work", places: Places, on_grid: tuple[Integers, Integers], outside: Flags
+) -> list[str]:
     """Say which towns go to other rows by snapping; make ``outside`` as they came.
 
-    Only a town close to an edge can: all others are looked at on the grid alone.
+    Only a town close to an edge can, and only by the rows with that edge: all others are those on
+    the grid. ``places`` are the towns on the grid.
     """
-    towns = np.flatnonzero(_may_move(work))
+    towns, rows = _may_move(work, places)
     if not len(towns):
         return []
     labels, notes = polygon_labels(work), []
-    came = _lists(_held_as_they_came(work, towns), len(towns))
-    close = np.isin(on_grid[0], towns)
-    snapped = _lists((np.searchsorted(towns, on_grid[0][close]), on_grid[1][close]), len(towns))
-    for town, first, then in zip(towns.tolist(), came, snapped, strict=True):
-        outside[town] = not first
-        if first != then:
-            ways = f"from {_names(labels, first)} to {_names(labels, then)}"
+    came = _lists(_held_as_they_came(work, towns, rows), len(towns))
+    then = _of_towns(on_grid, towns)
+    other = ~np.isin(then[1], rows)
+    same = _lists((then[0][other], then[1][other]), len(towns))
+    first = [sorted(a + b) for a, b in zip(came, same, strict=True)]
+    for town, old, new in zip(towns.tolist(), first, _lists(then, len(towns)), strict=True):
+        outside[town] = not old
+        if old != new:
+            ways = f"from {_names(labels, old)} to {_names(labels, new)}"
             notes.append(f"town {work.town_labels[town]}: snapping takes it {ways}")
     return notes
 
 
-def _may_move(work: "Work") -> Flags:
-    count = len(work.town_coordinates)
+def _may_move(work: "Work", places: Places) -> tuple[Integers, Integers]:
+    """Give the towns that snapping can have brought elsewhere, and the polygons it can be by."""
+    named = work.topology.named
     if work.lost_rings:
-        return np.ones(count, dtype=bool)
-    return close_to(work.topology, work.topology.points()[-count:], _CLOSE)
+        return np.arange(len(places)), np.arange(named.count)
+    towns, arcs = close_to(work.topology, places, _CLOSE)
+    by = np.isin(named.arcs, arcs)
+    return np.unique(towns), np.unique(named.polygon_of_rings[named.ring_of_references[by]])
 
 
-def _held_as_they_came(work: "Work", towns: Integers) -> tuple[Integers, Integers]:
+def _held_as_they_came(work: "Work", towns: Integers, rows: Integers) -> tuple[Integers, Integers]:
+    """Give pairs of one of the towns and one of the rows, by their numbers on the grid."""
     assert work.rings is not None
-    layout = work.rings.layout
-    first = layout.ring_starts
-    rings = np.flatnonzero(work.on_grid[layout.row_of_rings])
-    rows = rings, starts_of(np.diff(first)[work.on_grid])
+    firsts = work.rings.layout.ring_starts
+    of_frame = np.flatnonzero(work.on_grid)[rows]
+    counts = np.diff(firsts)[of_frame]
+    rings = np.repeat(firsts[of_frame], counts) + within(counts)
+    named = rings, starts_of(counts)
     points = work.town_coordinates[towns]
-    return held(work.rings.coordinates, work.rings.starts, rows, points)
+    town, row = held(work.rings.coordinates, work.rings.starts, named, points)
+    return town, rows[row]
 
 
 def _lists(pairs: tuple[Integers, Integers], count: int) -> list[list[int]]:

@@ -7,7 +7,7 @@ writes, reads or judges thousands; headers are taken ring by ring, positions nev
 from collections.abc import Sequence
 from ctypes import c_void_p
 from dataclasses import dataclass
-from struct import pack, unpack_from
+from struct import Struct
 from typing import Any
 
 import numpy as np
@@ -115,59 +115,65 @@ def _none_of(count: int) -> Parted:
     return Parted(np.empty((0, 2)), none, layout, no)
 
 
+_TWO, _ONE = Struct("<II").unpack_from, Struct("<I").unpack_from
+_HEADER, _SIZE = Struct("<BII").pack, Struct("<I").pack
+
+
 class _Scan:
     """Reads the headers of a collection of polygons and multipolygons."""
 
     def __init__(self, text: bytes) -> None:
         self._text = text
-        self._spans: list[tuple[int, int, int]] = []
+        self._firsts: list[int] = []
         self.parts: list[int] = []
         self.rings: list[int] = []
         self.sizes: list[int] = []
         self.multi: list[bool] = []
         self.high: list[bool] = []
         at = 9
-        for _ in range(unpack_from("<I", text, 5)[0]):
-            at = self._take_row(at)
+        for _ in range(_ONE(text, 5)[0]):
+            code, count = _TWO(text, at + 1)
+            multi = code & 0xFF == _MULTI
+            self.multi.append(multi)
+            self.high.append(code > 0xFF)
+            self.parts.append(count if multi else int(count > 0))
+            if multi:
+                at = self._take_parts(at + 9, count)
+            else:
+                at = self._take_parts(at, int(count > 0)) if count else at + 9
 
-    def _take_row(self, at: int) -> int:
-        code, count = unpack_from("<II", self._text, at + 1)
-        multi = code & 0xFF == _MULTI
-        self.multi.append(multi)
-        self.parts.append(count if multi else int(count > 0))
-        self.high.append(code > 0xFF)
-        if not multi:
-            return self._take_part(at) if count else at + 9
-        at += 9
+    def _take_parts(self, at: int, count: int) -> int:
+        text, firsts, sizes, rings = self._text, self._firsts, self.sizes, self.rings
         for _ in range(count):
-            at = self._take_part(at)
-        return at
-
-    def _take_part(self, at: int) -> int:
-        code, count = unpack_from("<II", self._text, at + 1)
-        stride = 24 if code > 0xFF else 16
-        at += 9
-        self.rings.append(count)
-        for _ in range(count):
-            size = unpack_from("<I", self._text, at)[0]
-            self.sizes.append(size)
-            end = at + 4 + size * stride
-            self._spans.append((at + 4, end, stride))
-            at = end
+            code, inner = _TWO(text, at + 1)
+            stride = 24 if code > 0xFF else 16
+            rings.append(inner)
+            at += 9
+            for _ in range(inner):
+                (size,) = _ONE(text, at)
+                firsts.append(at + 4)
+                sizes.append(size)
+                at += 4 + stride * size
         return at
 
     def coordinates(self) -> Coordinates:
         """Give all positions of all rings."""
-        text = self._text
+        text, ends = self._text, zip(self._firsts, self.sizes, strict=True)
         if any(self.high):
-            rows = b"".join(_flat(text[a:b]) if s == 24 else text[a:b] for a, b, s in self._spans)
-        else:
-            rows = b"".join([text[a:b] for a, b, _ in self._spans])
+            return self._without_heights()
+        rows = b"".join([text[at : at + 16 * size] for at, size in ends])
         return np.frombuffer(rows, dtype="<f8").reshape(-1, 2)
 
+    def _without_heights(self) -> Coordinates:
+        high = np.repeat(self.high, self.parts)
+        strides = np.repeat(np.where(high, 24, 16), self.rings).tolist()
+        spans = zip(self._firsts, self.sizes, strides, strict=True)
+        pieces = [_flat(self._text[at : at + size * stride], stride) for at, size, stride in spans]
+        return np.concatenate(pieces) if pieces else np.empty((0, 2))
 
-def _flat(rows: bytes) -> bytes:
-    return np.frombuffer(rows, dtype="<f8").reshape(-1, 3)[:, :2].tobytes()
+
+def _flat(rows: bytes, stride: int) -> Coordinates:
+    return np.frombuffer(rows, dtype="<f8").reshape(-1, stride // 8)[:, :2]
 
 
 def put_together(coordinates: Coordinates, starts: Integers, layout: Layout) -> Objects:
@@ -176,17 +182,38 @@ def put_together(coordinates: Coordinates, starts: Integers, layout: Layout) -> 
     Rings have four positions or more.
     """
     rows = np.empty(layout.row_count, dtype=object)
-    bodies = _Bodies(coordinates, starts, layout)
+    parts = _part_bodies(coordinates, starts, layout)
+    cuts = layout.parts.tolist()
     empty = np.diff(layout.parts) == 0
     single = np.flatnonzero(~layout.multi & ~empty)
     multi = np.flatnonzero(layout.multi & ~empty)
-    for at, kind in ((single, _MULTI), (multi, _COLLECTION)):
-        if len(at):
-            body = b"".join([bodies.row(row) for row in at.tolist()])
-            rows[at] = _read(kind, len(at), body)
+    if len(single):
+        rows[single] = _read(_MULTI, len(single), [parts[cuts[row]] for row in single.tolist()])
+    if len(multi):
+        rows[multi] = _read(
+            _COLLECTION,
+            len(multi),
+            [
+                _header(_MULTI, cuts[row + 1] - cuts[row]) + b"".join(parts[cuts[row] : cuts[row + 1]])
+                for row in multi.tolist()
+            ],
+        )
     for row in np.flatnonzero(empty).tolist():
         rows[row] = MultiPolygon() if layout.multi[row] else Polygon()
     return rows
+
+
+def _part_bodies(coordinates: Coordinates, starts: Integers, layout: Layout) -> list[bytes]:
+    """Give the WKB of each part."""
+    text = np.ascontiguousarray(coordinates, dtype="<f8").tobytes()
+    cuts, ends = starts.tolist(), layout.rings.tolist()
+    rings = [
+        _SIZE(b - a) + text[16 * a : 16 * b] for a, b in zip(cuts, cuts[1:], strict=False)
+    ]
+    return [
+        _header(_POLYGON, b - a) + (rings[a] if b - a == 1 else b"".join(rings[a:b]))
+        for a, b in zip(ends, ends[1:], strict=False)
+    ]
 
 
 def are_valid(geometries: Objects) -> Flags:
@@ -203,33 +230,8 @@ def _is_valid(geometry: Any) -> bool:
     return geometry._geom is None or bool(_is_valid_by_geos(geometry._geom))
 
 
-class _Bodies:
-    """Writes the WKB of rows."""
-
-    def __init__(self, coordinates: Coordinates, starts: Integers, layout: Layout) -> None:
-        self._text = np.ascontiguousarray(coordinates, dtype="<f8").tobytes()
-        self._starts = starts.tolist()
-        self._rings = layout.rings.tolist()
-        self._parts = layout.parts.tolist()
-        self._multi = layout.multi.tolist()
-
-    def row(self, row: int) -> bytes:
-        low, high = self._parts[row], self._parts[row + 1]
-        if not self._multi[row]:
-            return self._part(low)
-        return _header(_MULTI, high - low) + b"".join([self._part(p) for p in range(low, high)])
-
-    def _part(self, part: int) -> bytes:
-        low, high = self._rings[part], self._rings[part + 1]
-        cuts = self._starts[low : high + 1]
-        pieces = [_header(_POLYGON, high - low)]
-        for a, b in zip(cuts, cuts[1:], strict=False):
-            pieces += (pack("<I", b - a), self._text[16 * a : 16 * b])
-        return b"".join(pieces)
-
-
 def _header(kind: int, count: int) -> bytes:
-    return pack("<BII", 1, kind, count)
+    return _HEADER(1, kind, count)
 
 
 def points_of(points: Sequence[Any]) -> Coordinates | None:
@@ -243,9 +245,9 @@ def points_of(points: Sequence[Any]) -> Coordinates | None:
     return np.ascontiguousarray(rows).view("<f8").reshape(-1, 2)
 
 
-def _read(kind: int, count: int, body: bytes) -> Objects:
+def _read(kind: int, count: int, bodies: list[bytes]) -> Objects:
     """Give the members of a collection."""
-    whole = wkb.loads(_header(kind, count) + body)
+    whole = wkb.loads(_header(kind, count) + b"".join(bodies))
     if _VECTORS:
         return np.asarray(shapely.get_parts(whole), dtype=object)
     return np.fromiter(whole.geoms, dtype=object, count=count)

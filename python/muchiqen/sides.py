@@ -4,11 +4,13 @@ A ray goes upwards from a point, tilted a very little. What it crosses tells wha
 by parity for the rows that hold it, by direction for how many cover it.
 """
 
+import math
 from collections.abc import Iterator
 from functools import cached_property
 from typing import Any
 
 import numpy as np
+import pandas as pd
 
 from .grid import Places
 from .shapes import Flags
@@ -250,27 +252,85 @@ def _comes_before(x: Any, y: Any, u: Any, v: Any) -> Flags:
     return np.asarray((x < u) | ((x == u) & (y < v)))
 
 
-def close_to(topology: Topology, points: Places, margin: int) -> Flags:
-    """Tell which points may be within ``margin`` grid steps, on each axis, of an edge.
+def close_to(topology: Topology, points: Places, margin: int) -> tuple[Integers, Integers]:
+    """Give pairs of a point and an arc that may be within ``margin`` grid steps on each axis.
 
-    No point that is so close is told apart; one told close may be a little further away.
+    No pair that is so close is left out; one that is given may be a little further away.
     """
     blocks = Blocks(topology.places, topology.starts, np.arange(topology.arc_count))
-    order = np.argsort(points[:, 0], kind="stable")
-    px, py = _columns(points[order])
-    close = np.zeros(len(points), dtype=bool)
-    for block, point in _pairs(blocks.left - margin, blocks.right + margin, px):
-        y = py[point]
-        beside = (blocks.low[block] - margin <= y) & (y <= blocks.high[block] + margin)
-        _, edge, point = blocks.edges(block[beside], point[beside])
-        x, y = px[point] - blocks.x[edge], py[point] - blocks.y[edge]
+    close, arcs = [np.empty(0, dtype=np.int64)], [np.empty(0, dtype=np.int64)]
+    low = np.column_stack((blocks.left, blocks.low)) - margin
+    high = np.column_stack((blocks.right, blocks.high)) + margin
+    for block, point in in_boxes(low, high, points):
+        block, edge, point = blocks.edges(block, point)
+        x, y = points[point, 0] - blocks.x[edge], points[point, 1] - blocks.y[edge]
         across = blocks.x[edge + 1] - blocks.x[edge]
         up = blocks.y[edge + 1] - blocks.y[edge]
         near = (np.minimum(across, 0) - margin <= x) & (x <= np.maximum(across, 0) + margin)
         near &= (np.minimum(up, 0) - margin <= y) & (y <= np.maximum(up, 0) + margin)
         near &= np.abs(across * y - up * x) <= margin * (np.abs(across) + np.abs(up))
-        close[order[point[near]]] = True
-    return close
+        close.append(point[near])
+        arcs.append(blocks.line[block[near]])
+    return np.concatenate(close), np.concatenate(arcs)
+
+
+def thinned_boxes(before: Topology, after: Topology) -> tuple[Places, Places] | None:
+    """Give the boxes round the runs of positions that were dropped, with the ends of each run.
+
+    A place outside them is on the same side of each arc, before and after. None where the arcs
+    after are not told to be those before with inner positions left out.
+    """
+    same = np.array_equal(np.diff(before.starts) > 1, np.diff(after.starts) > 1)
+    if before.arc_count != after.arc_count or not same or not (np.diff(before.starts) > 1).all():
+        return None
+    count = len(before.places)
+    both = np.concatenate((before.places, after.places))
+    numbers, found = pd.factorize((both[:, 0] << 31) + both[:, 1])
+    inner = np.ones(count, dtype=bool)
+    inner[before.starts[:-1]], inner[before.starts[1:] - 1] = False, False
+    place = np.full(len(found), -1, dtype=np.int64)
+    place[numbers[:count][inner]] = np.flatnonzero(inner)
+    if np.bincount(numbers[:count][inner], minlength=1).max() > 1:
+        return None
+    at = place[numbers[count:]]
+    at[after.starts[:-1]], at[after.starts[1:] - 1] = before.starts[:-1], before.starts[1:] - 1
+    if (at < 0).any() or (np.diff(at) <= 0).any() or (both[at] != after.places).any():
+        return None
+    runs = np.flatnonzero(np.diff(at) > 1)
+    runs = runs[~np.isin(runs, after.starts[1:] - 1)]
+    columns = []
+    for values in _columns(before.places):
+        low, high = np.minimum.reduceat(values, at)[runs], np.maximum.reduceat(values, at)[runs]
+        last = values[at[runs + 1]]
+        columns += [np.minimum(low, last), np.maximum(high, last)]
+    return np.column_stack(columns[::2]), np.column_stack(columns[1::2])
+
+
+def in_boxes(low: Places, high: Places, points: Places) -> Iterator[tuple[Integers, Integers]]:
+    """Give, in runs, pairs of a box and a point in it; the edges of a box belong to it.
+
+    Points are sorted into the cells of a square grid, by rows; a box looks at its part of each row.
+    """
+    side = max(1, math.isqrt(len(points)))
+    corner = points.min(axis=0) if len(points) else np.zeros(2, dtype=np.int64)
+    size = (points.max(axis=0) - corner) // side + 1 if len(points) else corner + 1
+    column, row = _columns((points - corner) // size)
+    order = np.argsort(row * side + column, kind="stable")
+    firsts = starts_of(np.bincount(row * side + column, minlength=side * side))
+    worth = np.flatnonzero((high >= corner).all(axis=1) & (low < corner + size * side).all(axis=1))
+    left, bottom = _columns(np.maximum((low[worth] - corner) // size, 0))
+    right, top = _columns(np.minimum((high[worth] - corner) // size, side - 1))
+    rows = top - bottom + 1
+    at = np.repeat(np.arange(len(worth)), rows)
+    line = (bottom[at] + within(rows)) * side
+    first = firsts[line + left[at]]
+    counts = firsts[line + right[at] + 1] - first
+    for start, end in _chunks(counts):
+        some = np.arange(start, end)
+        box = worth[at[np.repeat(some, counts[some])]]
+        point = order[np.repeat(first[some], counts[some]) + within(counts[some])]
+        inside = ((points[point] >= low[box]) & (points[point] <= high[box])).all(axis=1)
+        yield box[inside], point[inside]
 
 
 def _columns(rows: Any) -> tuple[Any, Any]:
@@ -296,7 +356,7 @@ def crossed_arcs(
     pieces = [np.empty(0, dtype=np.int64)]
     for block, point, _ in crossings(blocks, points):
         pieces.append(blocks.line[block] * len(points) + point)
-    pairs = odd_times(np.sort(np.concatenate(pieces)))
+    pairs = np.sort(odd_times(np.concatenate(pieces)))
     return pairs // max(len(points), 1), pairs % max(len(points), 1)
 
 
@@ -315,7 +375,7 @@ def held(
     first, last = np.searchsorted(lines, named), np.searchsorted(lines, named, "right")
     counts = last - first
     hit = odd[np.repeat(first, counts) + within(counts)]
-    keys = odd_times(np.sort(hit * len(row_starts) + np.repeat(row, counts)))
+    keys = np.sort(odd_times(hit * len(row_starts) + np.repeat(row, counts)))
     return keys // len(row_starts), keys % len(row_starts)
 
 
@@ -334,9 +394,9 @@ def held_at_all(coordinates: Any, topology: Topology, points: Any) -> Flags:
 
 
 def odd_times(values: Integers) -> Integers:
-    """Give, of sorted values, those that come an odd number of times, each once."""
-    firsts = np.flatnonzero(np.insert(values[1:] != values[:-1], 0, True)) if len(values) else values
-    return values[firsts[np.diff(np.append(firsts, len(values))) % 2 == 1]]
+    """Give those values that come an odd number of times, each once, in no order."""
+    numbers, found = pd.factorize(values)
+    return np.asarray(found[np.bincount(numbers, minlength=len(found)) % 2 == 1])
 
 
 def _chunks(counts: Integers) -> Iterator[tuple[int, int]]:

@@ -69,17 +69,20 @@ def _inside_others(sides: Sides, arranged: bool) -> set[tuple[int, int]]:
 
 def _pairs_inside(sides: Sides, arcs: Integers, polygons: Flags) -> set[tuple[int, int]]:
     """Give the pairs of a polygon of an arc and another, of those given, that holds the arc."""
-    if not len(arcs):
+    if not len(arcs) or not polygons.any():
         return set()
-    rows = [row if polygons[at] else [] for at, row in enumerate(arcs_of_polygons(sides.topology))]
+    named, row_starts = rows_named(sides.topology)
+    counts = np.where(polygons, np.diff(row_starts), 0)
+    rows = named[np.repeat(polygons, np.diff(row_starts))], starts_of(counts)
     doubled = sides.topology.places * 2
-    found = holders(doubled, sides.topology.starts, rows, sides.middles(arcs))
-    named = sides.polygons_of(arcs)
+    at, other = held(doubled, sides.topology.starts, rows, sides.middles(arcs))
+    touched, which = np.unique(at, return_inverse=True)
+    owners = sides.polygons_of(arcs[touched])
     return {
-        (min(own, other), max(own, other))
-        for owners, inside in zip(named, found, strict=True)
-        for other in set(inside) - owners
-        for own in owners
+        (min(own, one), max(own, one))
+        for own_all, one in zip(map(owners.__getitem__, which.tolist()), other.tolist(), strict=True)
+        if one not in own_all
+        for own in own_all
     }
 
 

@@ -226,31 +226,36 @@ class Work:
         """
         return self.topology.text_parts() if self.raw is None else (self.raw, b"", b"")
 
-    def rows_of(self, topology: Topology, rows: Integers | None = None) -> gpd.GeoDataFrame:
-        """Give the rows of the coverage, or some of them, with their geometry in this topology."""
+    def rows_of(self, topology: Topology) -> gpd.GeoDataFrame:
+        """Give the rows of the coverage with their geometry in this topology."""
         if self.frame is None:
-            made = frame_of(topology, polygon_object(topology), self.crs)
-            return made if rows is None else made.iloc[rows]
-        frame = self.frame.copy() if rows is None else self.frame.iloc[rows].copy()
-        made = self._shapes(topology, rows)
-        for row in np.flatnonzero(self._missing if rows is None else self._missing[rows]).tolist():
-            made[row] = frame.geometry.iloc[row]
-        frame[frame.geometry.name] = GeometryArray(made, crs=self.crs)
+            return frame_of(topology, polygon_object(topology), self.crs)
+        frame = self.frame.copy()
+        made = GeometryArray(self.shapes_of(topology), crs=self.crs)
+        frame[frame.geometry.name] = made
         return frame
 
-    def _shapes(self, topology: Topology, rows: Integers | None) -> Objects:
-        """Give the geometry of each row, an empty polygon where nothing is left of it."""
-        assert self.layout is not None
-        made = np.empty(self.layout.row_count, dtype=object)
+    def shapes_of(self, topology: Topology, rows: Integers | None = None) -> Objects:
+        """Give the geometries of the rows, or of some, in this topology.
+
+        A row that had none has what it had; one of which nothing is left has an empty polygon.
+        """
+        if self.frame is None or self.layout is None or self.rings is None:
+            geometries = rows_of(topology.objects[polygon_object(topology)])
+            at = range(len(geometries)) if rows is None else rows.tolist()
+            return Shapes(topology).all_of([geometries[row] for row in at])
+        at = np.arange(self.layout.row_count) if rows is None else rows
         if rows is None:
+            made = np.empty(len(at), dtype=object)
             multi = self.layout.multi[self.on_grid]
             made[self.on_grid] = polygons_of(topology, topology.named, multi)
         else:
             geometries = topology.objects["rows"]["geometries"]
-            made = Shapes(topology).all_of([geometries[row] for row in rows.tolist()])
-        for row in range(len(made)):
-            if made[row] is None:
-                made[row] = Polygon()
+            made = Shapes(topology).all_of([geometries[row] for row in at.tolist()])
+        for row in np.flatnonzero(~self.on_grid[at]).tolist():
+            made[row] = Polygon()
+        for row in np.flatnonzero(self.rings.missing[at]).tolist():
+            made[row] = self.frame.geometry.iloc[at[row]]
         return made
 
     @property
@@ -264,11 +269,6 @@ class Work:
         """Whether a ring of the frame is not on the grid."""
         assert self.layout is not None and self.rings is not None
         return len(self.rings.starts) - 1 != self.layout.rings[-1]
-
-    @property
-    def _missing(self) -> Flags:
-        assert self.rings is not None
-        return self.rings.missing
 
     def town_frame(self) -> gpd.GeoDataFrame | None:
         """Give the towns on the grid; None where there are none."""
@@ -323,7 +323,7 @@ def _bytes_of(coverage: Any) -> bytes | None:
 def _moved(grid: Grid, coordinates: Coordinates) -> tuple[float, float]:
     if not len(coordinates):
         return 0.0, 0.0
-    moves = grid.moves(coordinates, grid.snap(coordinates)).max(axis=0)
+    moves = grids.extent(grid.moves(coordinates, grid.snap(coordinates)))[1]
     return float(moves[0]), float(moves[1])
 
 
