@@ -1,4 +1,4 @@
-"""What the report says of a map's faults: overlaps, gaps, invalid rows, towns, and why arcs are held.
+"""What the report says of a map's faults: overlaps, gaps, rows, towns, and why arcs are held.
 
 All of it is told from the map, before and after, and nothing is taken from the command's word but
 that a map which it thinned without ``--hold`` is arranged.
@@ -18,11 +18,24 @@ from .errors import NotConfirmed
 from .grid import Places
 from .meetings import Held
 from .shapes import Flags, Objects, are_valid
-from .sides import Sides, close_to, held, in_boxes, rows_named, thinned_boxes
+from .sides import (
+    Blocks,
+    Sides,
+    close_to,
+    held,
+    held_by,
+    in_boxes,
+    rows_named,
+    thinned_boxes,
+)
 from .topology import Integers, Topology, starts_of, within
 
 if TYPE_CHECKING:
     from .thin import Work
+
+_TOWNS_WORTH = 8
+"""With fewer towns for so many positions it takes longer to find those beside a run than to look
+at all of them."""
 
 _CLOSE = 2
 """Snapping moves a town and an edge together by less than so many grid steps on each axis."""
@@ -118,7 +131,9 @@ def town_notes(work: "Work", after: Topology) -> list[str]:
         return []
     rows = rows_named(work.topology)
     towns = work.topology.points()[-count:]
-    on_grid = held(work.topology.places, work.topology.starts, rows, towns)
+    arcs = np.arange(work.topology.arc_count)
+    blocks = Blocks(work.topology.places, work.topology.starts, arcs)
+    on_grid = held_by(blocks, rows, towns)
     some = _may_change(work.topology, after, towns)
     thinned = held(after.places, after.starts, rows, towns[some])
     wanted = _of_towns(on_grid, some)
@@ -128,7 +143,9 @@ def town_notes(work: "Work", after: Topology) -> list[str]:
         changed = [work.town_labels[town] for town, a, b in pairs if a != b]
         raise NotConfirmed(f"towns {changed[:5]} are in other rows after thinning")
     outside = np.bincount(on_grid[0], minlength=count) == 0
-    notes = _moved_notes(work, towns, on_grid, outside) if work.rings is not None else []
+    notes = []
+    if work.rings is not None:
+        notes += _moved_notes(work, _may_move(work, blocks, towns), on_grid, outside)
     if outside.any():
         labels = [work.town_labels[at] for at in np.flatnonzero(outside)[:6]]
         notes.append(f"{outside.sum()} towns are in no row: {_some(labels)}")
@@ -137,7 +154,8 @@ def town_notes(work: "Work", after: Topology) -> list[str]:
 
 def _may_change(before: Topology, after: Topology, towns: Places) -> Integers:
     """Give the towns that thinning can have brought elsewhere: those beside a run that it cut."""
-    boxes = thinned_boxes(before, after)
+    few = len(towns) * _TOWNS_WORTH < len(before.places)
+    boxes = None if few else thinned_boxes(before, after)
     if boxes is None:
         return np.arange(len(towns))
     beside = np.zeros(len(towns), dtype=bool)
@@ -147,20 +165,22 @@ def _may_change(before: Topology, after: Topology, towns: Places) -> Integers:
 
 
 def _of_towns(pairs: tuple[Integers, Integers], towns: Integers) -> tuple[Integers, Integers]:
-    """Give the pairs of some towns (rising), which take their place among those for their number."""
+    """Give the pairs of some towns (rising); their numbers are those among these towns."""
     there = np.isin(pairs[0], towns)
     return np.searchsorted(towns, pairs[0][there]), pairs[1][there]
 
 
 def _moved_notes(
-    work: "Work", places: Places, on_grid: tuple[Integers, Integers], outside: Flags
+    work: "Work",
+    moving: tuple[Integers, Integers],
+    on_grid: tuple[Integers, Integers],
+    outside: Flags,
 ) -> list[str]:
     """Say which towns go to other rows by snapping; make ``outside`` as they came.
 
-    Only a town close to an edge can, and only by the rows with that edge: all others are those on
-    the grid. ``places`` are the towns on the grid.
+    ``moving`` are the towns that can, and the rows by which: all others are those on the grid.
     """
-    towns, rows = _may_move(work, places)
+    towns, rows = moving
     if not len(towns):
         return []
     labels, notes = polygon_labels(work), []
@@ -177,12 +197,15 @@ def _moved_notes(
     return notes
 
 
-def _may_move(work: "Work", places: Places) -> tuple[Integers, Integers]:
-    """Give the towns that snapping can have brought elsewhere, and the polygons it can be by."""
+def _may_move(work: "Work", blocks: Blocks, places: Places) -> tuple[Integers, Integers]:
+    """Give the towns that snapping can have brought elsewhere, and the rows it can be by.
+
+    Only a town close to an edge can, and only by the rows with that edge.
+    """
     named = work.topology.named
     if work.lost_rings:
         return np.arange(len(places)), np.arange(named.count)
-    towns, arcs = close_to(work.topology, places, _CLOSE)
+    towns, arcs = close_to(blocks, places, _CLOSE)
     by = np.isin(named.arcs, arcs)
     return np.unique(towns), np.unique(named.polygon_of_rings[named.ring_of_references[by]])
 

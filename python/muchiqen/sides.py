@@ -180,6 +180,11 @@ class Blocks:
         """Give the least and the greatest value in each block."""
         if not len(self.first):
             return values[:0], values[:0]
+        if (np.diff(self.first) > 0).all():
+            cuts = np.column_stack((self.first, self.last)).ravel()
+            low, high = np.minimum.reduceat(values, cuts)[::2], np.maximum.reduceat(values, cuts)[::2]
+            last = values[self.last]
+            return np.minimum(low, last), np.maximum(high, last)
         counts = self.last - self.first + 1
         at = np.repeat(self.first, counts) + within(counts)
         firsts = starts_of(counts)[:-1]
@@ -252,12 +257,11 @@ def _comes_before(x: Any, y: Any, u: Any, v: Any) -> Flags:
     return np.asarray((x < u) | ((x == u) & (y < v)))
 
 
-def close_to(topology: Topology, points: Places, margin: int) -> tuple[Integers, Integers]:
-    """Give pairs of a point and an arc that may be within ``margin`` grid steps on each axis.
+def close_to(blocks: Blocks, points: Places, margin: int) -> tuple[Integers, Integers]:
+    """Give pairs of a point and a line that may be within ``margin`` grid steps on each axis.
 
     No pair that is so close is left out; one that is given may be a little further away.
     """
-    blocks = Blocks(topology.places, topology.starts, np.arange(topology.arc_count))
     close, arcs = [np.empty(0, dtype=np.int64)], [np.empty(0, dtype=np.int64)]
     low = np.column_stack((blocks.left, blocks.low)) - margin
     high = np.column_stack((blocks.right, blocks.high)) + margin
@@ -348,11 +352,8 @@ def _pairs(low: Any, high: Any, place: Any) -> Iterator[tuple[Integers, Integers
         yield block, np.repeat(first[some], counts[some]) + within(counts[some])
 
 
-def crossed_arcs(
-    coordinates: Any, starts: Integers, points: Any, lines: Integers
-) -> tuple[Integers, Integers]:
+def crossed_lines(blocks: Blocks, points: Any) -> tuple[Integers, Integers]:
     """Give lines, rising, and beside each a point whose ray crosses it an odd number of times."""
-    blocks = Blocks(coordinates, starts, lines)
     pieces = [np.empty(0, dtype=np.int64)]
     for block, point, _ in crossings(blocks, points):
         pieces.append(blocks.line[block] * len(points) + point)
@@ -367,10 +368,17 @@ def held(
 
     Row r names the lines ``rows[0][rows[1][r] : rows[1][r + 1]]``.
     """
-    named, row_starts = rows
     used = np.zeros(len(starts) - 1, dtype=bool)
-    used[named] = True
-    lines, odd = crossed_arcs(coordinates, starts, points, np.flatnonzero(used))
+    used[rows[0]] = True
+    return held_by(Blocks(coordinates, starts, np.flatnonzero(used)), rows, points)
+
+
+def held_by(
+    blocks: Blocks, rows: tuple[Integers, Integers], points: Any
+) -> tuple[Integers, Integers]:
+    """Give the same as ``held``, by blocks of all lines that the rows name, or of more."""
+    named, row_starts = rows
+    lines, odd = crossed_lines(blocks, points)
     row = np.repeat(np.arange(len(row_starts) - 1), np.diff(row_starts))
     first, last = np.searchsorted(lines, named), np.searchsorted(lines, named, "right")
     counts = last - first
