@@ -78,7 +78,8 @@ def measure_frame(path: pathlib.Path, tolerance: float, repeat: int) -> None:
         runs.append(used(resource.RUSAGE_CHILDREN) - before[1])
         start = used(resource.RUSAGE_CHILDREN)
         report = thinned.report
-        command.simplify(thinned.source, report.bound, hold=bool(report.held), weights=report.weights)
+        hold = bool(report.held)
+        command.simplify(thinned.source, report.bound, hold=hold, weights=report.weights)
         alone.append(used(resource.RUSAGE_CHILDREN) - start)
     best = [min(seconds[1:]) for seconds in (alone, runs, own)]
     print(
@@ -162,7 +163,8 @@ def one_run(cells: int, by: str, workers: int, bound: int) -> None:
 
 def measure_large(cells: int, by: str, workers: list[int], bound: int) -> None:
     """Prints a line for each number of workers."""
-    print(f"{2 * (cells + 1) * cells * (INNER + 2):,} positions, bound {bound}, by {by}", flush=True)
+    positions = 2 * (cells + 1) * cells * (INNER + 2)
+    print(f"{positions:,} positions, bound {bound}, by {by}", flush=True)
     seen = set()
     for count in workers:
         words = [sys.executable, __file__, "one", str(cells), by, str(count), str(bound)]

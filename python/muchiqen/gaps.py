@@ -149,7 +149,8 @@ class _Borders:
             least, most = area[face] + area[inner].sum(), length[face] + length[inner].sum()
             if 2 * least < width * most * _MARGIN:
                 chosen[[face, *inner]] = True
-                boxes.add(tuple(self._topology.grid.unsnap(np.array([low[face], high[face]])).ravel()))
+                box = self._topology.grid.unsnap(np.array([low[face], high[face]]))
+                boxes.add(tuple(box.ravel().tolist()))
         return np.unique(self.arcs[np.flatnonzero(chosen[cycle]) // 2]), boxes
 
     def _is_claimed(self) -> Flags:

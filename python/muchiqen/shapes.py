@@ -188,19 +188,18 @@ def put_together(coordinates: Coordinates, starts: Integers, layout: Layout) -> 
     single = np.flatnonzero(~layout.multi & ~empty)
     multi = np.flatnonzero(layout.multi & ~empty)
     if len(single):
-        rows[single] = _read(_MULTI, len(single), [parts[cuts[row]] for row in single.tolist()])
+        rows[single] = _read(_MULTI, [parts[cuts[row]] for row in single.tolist()])
     if len(multi):
-        rows[multi] = _read(
-            _COLLECTION,
-            len(multi),
-            [
-                _header(_MULTI, cuts[row + 1] - cuts[row]) + b"".join(parts[cuts[row] : cuts[row + 1]])
-                for row in multi.tolist()
-            ],
-        )
+        rows[multi] = _read(_COLLECTION, [_multi(parts, cuts, row) for row in multi.tolist()])
     for row in np.flatnonzero(empty).tolist():
         rows[row] = MultiPolygon() if layout.multi[row] else Polygon()
     return rows
+
+
+def _multi(parts: list[bytes], cuts: list[int], row: int) -> bytes:
+    """Give the WKB of a multipolygon."""
+    low, high = cuts[row], cuts[row + 1]
+    return _header(_MULTI, high - low) + b"".join(parts[low:high])
 
 
 def _part_bodies(coordinates: Coordinates, starts: Integers, layout: Layout) -> list[bytes]:
@@ -245,12 +244,12 @@ def points_of(points: Sequence[Any]) -> Coordinates | None:
     return np.ascontiguousarray(rows).view("<f8").reshape(-1, 2)
 
 
-def _read(kind: int, count: int, bodies: list[bytes]) -> Objects:
+def _read(kind: int, bodies: list[bytes]) -> Objects:
     """Give the members of a collection."""
-    whole = wkb.loads(_header(kind, count) + b"".join(bodies))
+    whole = wkb.loads(_header(kind, len(bodies)) + b"".join(bodies))
     if _VECTORS:
         return np.asarray(shapely.get_parts(whole), dtype=object)
-    return np.fromiter(whole.geoms, dtype=object, count=count)
+    return np.fromiter(whole.geoms, dtype=object, count=len(bodies))
 
 
 def _written(geometries: Sequence[Any]) -> bytes:

@@ -96,9 +96,9 @@ class Sides:
         places = self.topology.places[end]
         node = (places[:, 0] << 31) + places[:, 1]
         order = np.lexsort((node, self.ring))
-        same = (node[order][1:] == node[order][:-1]) & (self.ring[order][1:] == self.ring[order][:-1])
+        node, ring = node[order], self.ring[order]
         simple = self.areas != 0
-        simple[self.ring[order][1:][same]] = False
+        simple[ring[1:][(node[1:] == node[:-1]) & (ring[1:] == ring[:-1])]] = False
         return simple
 
     def _differs(self, at: Integers, group: Integers) -> Flags:
@@ -165,6 +165,7 @@ class Blocks:
     """
 
     def __init__(self, coordinates: Any, starts: Integers, lines: Integers) -> None:
+        self.line_count = len(starts) - 1
         edges = np.maximum(np.diff(starts)[lines] - 1, 0)
         counts = -(-edges // _BLOCK)
         number = within(counts)
@@ -182,16 +183,16 @@ class Blocks:
             return values[:0], values[:0]
         if (np.diff(self.first) > 0).all():
             cuts = np.column_stack((self.first, self.last)).ravel()
-            low, high = np.minimum.reduceat(values, cuts)[::2], np.maximum.reduceat(values, cuts)[::2]
-            last = values[self.last]
-            return np.minimum(low, last), np.maximum(high, last)
+            low = np.minimum.reduceat(values, cuts)[::2]
+            high = np.maximum.reduceat(values, cuts)[::2]
+            return np.minimum(low, values[self.last]), np.maximum(high, values[self.last])
         counts = self.last - self.first + 1
         at = np.repeat(self.first, counts) + within(counts)
         firsts = starts_of(counts)[:-1]
         return np.minimum.reduceat(values[at], firsts), np.maximum.reduceat(values[at], firsts)
 
     def edges(self, block: Integers, point: Integers) -> tuple[Integers, Integers, Integers]:
-        """Give, for pairs of a block and a point, the block, the edge and the point of each edge."""
+        """Give, for pairs of a block and a point, each with each edge of the block."""
         counts = (self.last - self.first)[block]
         edge = np.repeat(self.first[block], counts) + within(counts)
         return np.repeat(block, counts), edge, np.repeat(point, counts)
@@ -352,15 +353,6 @@ def _pairs(low: Any, high: Any, place: Any) -> Iterator[tuple[Integers, Integers
         yield block, np.repeat(first[some], counts[some]) + within(counts[some])
 
 
-def crossed_lines(blocks: Blocks, points: Any) -> tuple[Integers, Integers]:
-    """Give lines, rising, and beside each a point whose ray crosses it an odd number of times."""
-    pieces = [np.empty(0, dtype=np.int64)]
-    for block, point, _ in crossings(blocks, points):
-        pieces.append(blocks.line[block] * len(points) + point)
-    pairs = np.sort(odd_times(np.concatenate(pieces)))
-    return pairs // max(len(points), 1), pairs % max(len(points), 1)
-
-
 def held(
     coordinates: Any, starts: Integers, rows: tuple[Integers, Integers], points: Any
 ) -> tuple[Integers, Integers]:
@@ -378,12 +370,17 @@ def held_by(
 ) -> tuple[Integers, Integers]:
     """Give the same as ``held``, by blocks of all lines that the rows name, or of more."""
     named, row_starts = rows
-    lines, odd = crossed_lines(blocks, points)
     row = np.repeat(np.arange(len(row_starts) - 1), np.diff(row_starts))
-    first, last = np.searchsorted(lines, named), np.searchsorted(lines, named, "right")
-    counts = last - first
-    hit = odd[np.repeat(first, counts) + within(counts)]
-    keys = np.sort(odd_times(hit * len(row_starts) + np.repeat(row, counts)))
+    row = row[np.argsort(named, kind="stable")]
+    uses = np.bincount(named, minlength=blocks.line_count)
+    firsts = starts_of(uses)[:-1]
+    pieces = [np.empty(0, dtype=np.int64)]
+    for block, point, _ in crossings(blocks, points):
+        line = blocks.line[block]
+        counts = uses[line]
+        crossed = row[np.repeat(firsts[line], counts) + within(counts)]
+        pieces.append(np.repeat(point * len(row_starts), counts) + crossed)
+    keys = np.sort(odd_times(np.concatenate(pieces)))
     return keys // len(row_starts), keys % len(row_starts)
 
 

@@ -80,9 +80,9 @@ def _pairs_inside(sides: Sides, arcs: Integers, polygons: Flags) -> set[tuple[in
     owners = sides.polygons_of(arcs[touched])
     return {
         (min(own, one), max(own, one))
-        for own_all, one in zip(map(owners.__getitem__, which.tolist()), other.tolist(), strict=True)
-        if one not in own_all
-        for own in own_all
+        for arc, one in zip(which.tolist(), other.tolist(), strict=True)
+        if one not in owners[arc]
+        for own in owners[arc]
     }
 
 

@@ -133,8 +133,9 @@ class Topology:
     def _points(self) -> Places:
         pieces = [np.empty((0, 2), dtype=np.int64)]
         for kind, found in groupby(walk(self.objects), key=lambda geometry: geometry["type"]):
-            rows = [geometry["coordinates"] for geometry in found if kind in ("Point", "MultiPoint")]
-            pieces += [_places_of(rows)] if kind == "Point" else map(_places_of, rows)
+            if kind in ("Point", "MultiPoint"):
+                rows = [geometry["coordinates"] for geometry in found]
+                pieces += [_places_of(rows)] if kind == "Point" else map(_places_of, rows)
         return np.concatenate(pieces)
 
     def with_arcs(self, places: Places, starts: Integers) -> "Topology":
