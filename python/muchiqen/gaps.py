@@ -140,7 +140,9 @@ class _Borders:
         area, length = self._sums(cycle, len(numbers))
         low, high = self._boxes(cycle, len(numbers))
         held = np.zeros(len(numbers), dtype=bool)
-        held[cycle[self._is_claimed()]] = True
+        held[cycle[self._is_held()]] = True
+        for least, most in zip(*self._mixed_boxes(), strict=True):
+            held &= ((high < least) | (low > most)).any(axis=1)
         islands = np.flatnonzero(area < 0)
         chosen, boxes = np.zeros(len(numbers), dtype=bool), set()
         for face in np.flatnonzero((area > 0) & ~held).tolist():
@@ -153,15 +155,26 @@ class _Borders:
                 boxes.add(tuple(box.ravel().tolist()))
         return np.unique(self.arcs[np.flatnonzero(chosen[cycle]) // 2]), boxes
 
-    def _is_claimed(self) -> Flags:
-        """Tell of each way whether a plain polygon claims its left."""
-        sides = self._sides
-        claims = sides.claims[sides.plain_polygons[sides.polygon]]
-        count = self._topology.arc_count
-        left, right = np.zeros((2, count), dtype=bool)
-        left[claims[claims >= 0]] = True
-        right[-claims[claims < 0] - 1] = True
+    def _is_held(self) -> Flags:
+        """Tell of each way whether just one part of a plain polygon is on its left: it holds it."""
+        crowded = np.zeros(self._topology.arc_count, dtype=bool)
+        crowded[self._sides.crowded] = True
+        left, right = ((claims == 1) & ~crowded for claims in self._sides.plain_claims)
         return np.column_stack((left[self.arcs], right[self.arcs])).ravel()
+
+    def _mixed_boxes(self) -> tuple[Places, Places]:
+        """Give the boxes of the other arcs that may have a held side and one that is not held.
+
+        Inside a face with a held way, and with none of these, everything is held.
+        """
+        sides = self._sides
+        uses = np.bincount(self._topology.named.arcs, minlength=self._topology.arc_count)
+        left, right = sides.plain_claims
+        plain = (uses == 2) & (left == 1) & (right == 1)
+        plain[sides.crowded] = False
+        plain[self.arcs] = True
+        arcs = sides.named_arcs[~plain[sides.named_arcs]]
+        return self._arc_boxes(arcs)
 
     def _sums(self, cycle: Integers, count: int) -> tuple[Coordinates, Coordinates]:
         """Give the area and the length of each cycle, in the units of the map."""
@@ -185,15 +198,20 @@ class _Borders:
         return at, starts_of(counts)
 
     def _boxes(self, cycle: Integers, count: int) -> tuple[Places, Places]:
-        at, starts = self._positions(self.arcs)
-        places = self._topology.places[at]
         low = np.full((count, 2), np.iinfo(np.int64).max)
         high = np.full((count, 2), np.iinfo(np.int64).min)
-        arc_low = np.minimum.reduceat(places, starts[:-1])
-        arc_high = np.maximum.reduceat(places, starts[:-1])
+        arc_low, arc_high = self._arc_boxes(self.arcs)
         np.minimum.at(low, cycle, np.repeat(arc_low, 2, axis=0))
         np.maximum.at(high, cycle, np.repeat(arc_high, 2, axis=0))
         return low, high
+
+    def _arc_boxes(self, arcs: Integers) -> tuple[Places, Places]:
+        if not len(arcs):
+            return np.empty((0, 2), dtype=np.int64), np.empty((0, 2), dtype=np.int64)
+        at, starts = self._positions(arcs)
+        places = self._topology.places[at]
+        low = np.minimum.reduceat(places, starts[:-1])
+        return low, np.maximum.reduceat(places, starts[:-1])
 
 
 __all__ = ["narrow_gaps", "outer_arcs"]

@@ -110,17 +110,26 @@ class Sides:
         twice = _has_twin(arc, group)
         return np.asarray((counts != wanted) | twice)
 
-    def crowded(self, arcs: Integers, polygons: Flags) -> Integers:
-        """Give the arcs over which another number of those polygons lies than claim it."""
-        claims = self.claims[polygons[self.polygon]]
-        count = self.topology.arc_count
-        left = np.bincount(claims[claims >= 0], minlength=count)
-        right = np.bincount(-claims[claims < 0] - 1, minlength=count)
+    @cached_property
+    def crowded(self) -> Integers:
+        """Those named arcs over which another number of parts of plain polygons lies than claim it.
+
+        Beside all other arcs, on both sides, lie those parts that claim the side and no others.
+        """
+        arcs, (left, right) = self.named_arcs, self.plain_claims
         jump = np.flatnonzero(left != right)
         zeros = np.zeros(len(arcs), dtype=np.int64), np.zeros(len(jump), dtype=np.int64)
         counts = self._covered(arcs, zeros[0], jump, zeros[1], (left - right)[jump])
         wanted = np.where(self._goes_right(arcs), left[arcs], right[arcs])
         return arcs[counts != wanted]
+
+    @cached_property
+    def plain_claims(self) -> tuple[Integers, Integers]:
+        """For each arc how often plain polygons claim its left, and its right."""
+        claims = self.claims[self.plain_polygons[self.polygon]]
+        count = self.topology.arc_count
+        left = np.bincount(claims[claims >= 0], minlength=count)
+        return left, np.bincount(-claims[claims < 0] - 1, minlength=count)
 
     def _goes_right(self, arcs: Integers) -> Flags:
         a = self.topology.places[self.topology.starts[arcs]]

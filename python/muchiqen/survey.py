@@ -61,7 +61,7 @@ def _inside_others(sides: Sides, arranged: bool) -> set[tuple[int, int]]:
     if not arranged:
         return _pairs_inside(sides, arcs, np.ones(named.count, dtype=bool))
     whole = sides.plain_polygons
-    pairs = _pairs_inside(sides, sides.crowded(arcs, whole), np.ones(named.count, dtype=bool))
+    pairs = _pairs_inside(sides, sides.crowded, np.ones(named.count, dtype=bool))
     if not whole.all():
         pairs |= _pairs_inside(sides, arcs, ~whole)
     return pairs
