@@ -142,7 +142,7 @@ class _Borders:
         held = np.zeros(len(numbers), dtype=bool)
         held[cycle[self._is_held()]] = True
         for least, most in zip(*self._mixed_boxes(), strict=True):
-            held &= ((high < least) | (low > most)).any(axis=1)
+            held &= ~((low <= least) & (most <= high)).all(axis=1)
         islands = np.flatnonzero(area < 0)
         chosen, boxes = np.zeros(len(numbers), dtype=bool), set()
         for face in np.flatnonzero((area > 0) & ~held).tolist():
@@ -165,7 +165,8 @@ class _Borders:
     def _mixed_boxes(self) -> tuple[Places, Places]:
         """Give the boxes of the other arcs that may have a held side and one that is not held.
 
-        Inside a face with a held way, and with none of these, everything is held.
+        Inside a face with a held way, and with none of these, everything is held. An arc that is
+        inside a face has its box in that of the face.
         """
         sides = self._sides
         uses = np.bincount(self._topology.named.arcs, minlength=self._topology.arc_count)
