@@ -135,7 +135,10 @@ class _Borders:
         return sorted(steps, key=cmp_to_key(compare))
 
     def suspects(self, width: float) -> tuple[Integers, set[tuple[float, ...]]]:
-        """Give the arcs round faces that may be narrow gaps, and the boxes of those faces."""
+        """Give the arcs round faces that may be narrow gaps, and the boxes of those faces.
+
+        What is in the box of a face is taken to be in it, but for what is beyond its own arcs.
+        """
         numbers, cycle = np.unique(self.cycle, return_inverse=True)
         area, length = self._sums(cycle, len(numbers))
         low, high = self._boxes(cycle, len(numbers))
@@ -148,6 +151,8 @@ class _Borders:
         for face in np.flatnonzero((area > 0) & ~held).tolist():
             within_it = (low[islands] >= low[face]).all(axis=1)
             inner = islands[within_it & (high[islands] <= high[face]).all(axis=1)]
+            beyond = cycle[np.flatnonzero(cycle == face) ^ 1]
+            inner = inner[~np.isin(inner, beyond)]
             least, most = area[face] + area[inner].sum(), length[face] + length[inner].sum()
             if 2 * least < width * most * _MARGIN:
                 chosen[[face, *inner]] = True
