@@ -1,5 +1,5 @@
 //! Maps on which a simplifier can turn quadratic, each made by a rule and thinned in time.
-ghost use Rattle.std.specs.Prelude.{◌≤ℤ◌, ◌+ℤ◌};
+ghost use Rattle.std.specs.Prelude.{◌≤ℤ◌, ◌+ℤ◌, pos};
 
 use crate::call::ended_on;
 use crate::error::RowsError;
@@ -32,8 +32,8 @@ fn on_square(at: i64) -> (i64, i64) {
 
 // How far a vertex stands from its line: at most 20, and differently along each axis.
 fn wiggle(at: i64, axis: i64) -> i64
-    ensures least { 0 ≤ℤ result +ℤ 20 }
-    ensures most { result ≤ℤ 20 }
+    ensures least { pos 0 ≤ℤ (result +ℤ pos 20) }
+    ensures most { result ≤ℤ pos 20 }
 {
     at.saturating_mul(axis).rem_euclid(41) - 20
 }
