@@ -12,7 +12,7 @@ from shapely.geometry import MultiPolygon, Polygon
 from .errors import NotACoverage
 from .grid import Coordinates, Grid, Places, extent
 from .shapes import Flags, Layout, take_apart
-from .topology import Integers, lists_text, positions_text, starts_of
+from .topology import Integers, closed, columns_at, lists_text, starts_of
 
 
 @dataclass
@@ -82,7 +82,7 @@ def _others(shapes: npt.NDArray[np.object_]) -> list[int]:
 def _refuse_infinite(
     frame: gpd.GeoDataFrame, coordinates: Coordinates, starts: Integers, layout: Layout
 ) -> None:
-    if np.isfinite(coordinates).all():
+    if not len(coordinates) or np.isfinite(extent(coordinates)).all():
         return
     bad = np.flatnonzero(~np.isfinite(coordinates).all(axis=1))
     rings = np.searchsorted(starts, bad, side="right") - 1
@@ -118,13 +118,13 @@ def snapped(rings: Rings, grid: Grid, labels: list[Any]) -> Snapped:
     moved = extent(moves)[1] if len(moves) else (0.0, 0.0)
     keep = _without_repeats(places, rings.starts)
     starts = starts_of(keep)[rings.starts]
-    places = places[keep]
+    places = columns_at(places, keep)
     sizes = np.diff(starts)
     flat = (sizes < 3) | _walks_there_and_back(places, starts)
     notes, layout = [], rings.layout
     if flat.any():
         flat, layout, notes = _without_flat(layout, flat, labels)
-    notes += _joined_notes(rings.coordinates[keep], places)
+    notes += _joined_notes(columns_at(rings.coordinates, keep), places)
     if flat.any():
         places = places[np.repeat(~flat, sizes)]
         starts = starts_of(sizes[~flat])
@@ -195,12 +195,9 @@ def _joined_notes(coordinates: Coordinates, places: Places) -> list[str]:
     ]
 
 
-def geojson(rings: Snapped, towns: Places | None) -> bytes:
-    """Give the FeatureCollection that ``build`` reads: one feature a row, the towns as the last."""
+def geojson(rings: Snapped) -> bytes:
+    """Give the FeatureCollection that ``build`` reads: one feature a row."""
     features = [_feature(shape) for shape in _shapes(rings)]
-    if towns is not None:
-        points = positions_text(towns)
-        features.append(_feature(b'{"type":"MultiPoint","coordinates":' + points + b"}"))
     return b'{"type":"FeatureCollection","features":[' + b",".join(features) + b"]}"
 
 
@@ -230,7 +227,7 @@ def _ring_texts(rings: Snapped) -> list[bytes]:
     """Give each ring, closed, as a JSON list."""
     if len(rings.starts) == 1:
         return []
-    closings = np.insert(rings.places, rings.starts[1:], rings.places[rings.starts[:-1]], axis=0)
+    closings = columns_at(rings.places, closed(rings.starts))
     starts = rings.starts + np.arange(len(rings.starts))
     inner = lists_text(closings, starts)[3:-3]
     return [b"[[" + ring + b"]]" for ring in inner.split(b"]],[[")]

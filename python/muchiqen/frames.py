@@ -10,7 +10,16 @@ from shapely.geometry import LineString, MultiLineString, MultiPoint, Point
 from .build import ring_positions
 from .grid import Coordinates
 from .shapes import Flags, Layout, Objects, put_together
-from .topology import Integers, Named, References, Topology, starts_of, walk
+from .topology import (
+    Integers,
+    Named,
+    References,
+    Topology,
+    closed,
+    columns_at,
+    starts_of,
+    walk,
+)
 
 
 def polygons_of(topology: Topology, named: Named, multi: Flags) -> Objects:
@@ -24,8 +33,7 @@ def polygons_of(topology: Topology, named: Named, multi: Flags) -> Objects:
     if (sizes < 3).any():
         at, starts, layout = _without_short(at, starts, layout)
         sizes = np.diff(starts)
-    closed = np.insert(at, starts[1:], at[starts[:-1]]) if len(sizes) else at
-    coordinates = topology.grid.unsnap(topology.places[closed])
+    coordinates = topology.grid.unsnap(columns_at(topology.places, at[closed(starts)]))
     return put_together(coordinates, starts + np.arange(len(starts)), layout)
 
 

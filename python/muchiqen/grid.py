@@ -2,6 +2,7 @@
 
 import math
 from dataclasses import dataclass
+from typing import Any
 
 import numpy as np
 import numpy.typing as npt
@@ -38,21 +39,37 @@ class Grid:
 
     def snap(self, coordinates: Coordinates) -> Places:
         """Give the nearest places. Raises BadGrid where one is off the grid."""
-        places = np.rint((coordinates - self.translate) / self.scale)
-        if places.size and not np.abs(extent(places)).max() <= EDGE:
-            raise BadGrid(f"the map reaches past {EDGE} steps of {self.scale}")
-        return np.asarray(places, dtype=np.int64)
+        places = np.empty(coordinates.shape, dtype=np.int64, order="F")
+        for axis in (0, 1):
+            found = np.rint((coordinates[:, axis] - self.translate[axis]) / self.scale[axis])
+            if found.size and not max(-found.min(), found.max()) <= EDGE:
+                raise BadGrid(f"the map reaches past {EDGE} steps of {self.scale}")
+            places[:, axis] = found
+        return places
 
     def unsnap(self, places: Places) -> Coordinates:
         """Give the coordinates of places: for a step of 10^-k the doubles of short decimals."""
-        columns = [_steps(places[:, axis], self.scale[axis]) for axis in (0, 1)]
-        return np.asarray(np.column_stack(columns) + self.translate, dtype=np.float64)
+        found = np.empty(places.shape, dtype=np.float64, order="F")
+        for axis in (0, 1):
+            found[:, axis] = _steps(places[:, axis], self.scale[axis]) + self.translate[axis]
+        return found
 
     def moves(self, coordinates: Coordinates, places: Places) -> Coordinates:
         """Give how far snapping moved each position on each axis, rounding noise taken as 0."""
-        moved = np.abs(self.unsnap(places) - coordinates)
-        noise = 4 * np.spacing(np.maximum(np.abs(coordinates), np.abs(self.translate)))
-        return np.where(moved <= noise, 0.0, moved)
+        moved = self.unsnap(places)
+        for axis in (0, 1):
+            found, values, origin = moved[:, axis], coordinates[:, axis], abs(self.translate[axis])
+            np.abs(np.subtract(found, values, out=found), out=found)
+            most = max(float(-values.min()), float(values.max()), origin) if len(values) else 0.0
+            few = np.flatnonzero(found <= _noise(most))
+            few = few[found[few] <= _noise(np.maximum(np.abs(values[few]), origin))]
+            found[few] = 0.0
+        return moved
+
+
+def _noise(sizes: Any) -> Any:
+    """Give how far a number of some size, above 0, may be off by rounding."""
+    return 4 * np.spacing(sizes)
 
 
 def _steps(numbers: Places, step: float) -> Coordinates:

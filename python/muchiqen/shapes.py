@@ -4,9 +4,11 @@ Shapely 1.8 has no calls over arrays. A collection of geometries is one geometry
 writes, reads or judges thousands; headers are taken ring by ring, positions never.
 """
 
-from collections.abc import Sequence
+from collections.abc import Iterator, Sequence
 from ctypes import c_void_p
 from dataclasses import dataclass
+from itertools import repeat
+from operator import attrgetter
 from struct import Struct
 from typing import Any
 
@@ -105,7 +107,7 @@ def take_apart(geometries: Sequence[Any]) -> Parted:
     multi, high = np.zeros((2, len(there)), dtype=bool)
     multi[there], high[there] = scan.multi, scan.high
     layout = Layout(starts_of(parts), starts_of(scan.rings), multi)
-    return Parted(scan.coordinates(), starts_of(scan.sizes), layout, high)
+    return Parted(np.asfortranarray(scan.coordinates()), starts_of(scan.sizes), layout, high)
 
 
 def _none_of(count: int) -> Parted:
@@ -219,14 +221,11 @@ def are_valid(geometries: Objects) -> Flags:
     """Tell which geometries shapely finds valid; None and empty ones are."""
     if _VECTORS:
         return np.asarray(shapely.is_valid(geometries) | shapely.is_missing(geometries))
-    there = [geometry is not None for geometry in geometries]
+    handles = [None if geometry is None else geometry.__geom__ for geometry in geometries]
+    there = np.array([handle is not None for handle in handles], dtype=bool)
     valid = np.ones(len(geometries), dtype=bool)
-    valid[there] = [_is_valid(g) for g in geometries if g is not None]
+    valid[there] = [bool(_is_valid_by_geos(handle)) for handle in handles if handle is not None]
     return valid
-
-
-def _is_valid(geometry: Any) -> bool:
-    return geometry._geom is None or bool(_is_valid_by_geos(geometry._geom))
 
 
 def _header(kind: int, count: int) -> bytes:
@@ -249,7 +248,21 @@ def _read(kind: int, bodies: list[bytes]) -> Objects:
     whole = wkb.loads(_header(kind, len(bodies)) + b"".join(bodies))
     if _VECTORS:
         return np.asarray(shapely.get_parts(whole), dtype=object)
-    return np.fromiter(whole.geoms, dtype=object, count=len(bodies))
+    made = _members(whole, Polygon if kind == _MULTI else MultiPolygon, len(bodies))
+    return np.fromiter(made, dtype=object, count=len(bodies))
+
+
+def _members(whole: Any, kind: type, count: int) -> Iterator[Any]:
+    """Give the members of a collection, all of one kind, none empty, as ``whole.geoms`` does.
+
+    Shapely 1.8 sets each attribute of each member by a call; here they are set at once.
+    """
+    common = {"__p__": whole.geoms, "_other_owned": True, "_is_empty": False, "_ndim": 2}
+    handle, new = whole._geom, kind.__new__
+    for member in map(lgeos.GEOSGetGeometryN, repeat(handle), range(count)):
+        made = new(kind)
+        made.__dict__.update(common, __geom__=member)
+        yield made
 
 
 def _written(geometries: Sequence[Any]) -> bytes:
@@ -263,6 +276,6 @@ def _written(geometries: Sequence[Any]) -> bytes:
 
 def _collection(geometries: Sequence[Any]) -> Any:
     """Give a collection of copies. GEOS copies; shapely's own constructor takes twice as long."""
-    copies = [lgeos.GEOSGeom_clone(geometry._geom) for geometry in geometries]
+    copies = list(map(lgeos.GEOSGeom_clone, map(attrgetter("__geom__"), geometries)))
     handles = (c_void_p * len(copies))(*copies)
     return geom_factory(lgeos.GEOSGeom_createCollection(_COLLECTION, handles, len(copies)))

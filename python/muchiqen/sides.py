@@ -208,13 +208,17 @@ class Blocks:
 
 
 def crossings(
-    blocks: Blocks, points: Any, groups: tuple[Integers, Integers] | None = None
+    blocks: Blocks,
+    points: Any,
+    groups: tuple[Integers, Integers] | None = None,
+    floors: Any = None,
 ) -> Iterator[tuple[Integers, Integers, Integers]]:
     """Give, in runs, blocks, points whose ray crosses them, and which way the ray is crossed.
 
     The third is 1 where a line crosses the ray to the right, -1 where it does so to the left; what
     crosses to and fro within a block may be left out in pairs. With ``groups``, of the blocks and
     of the points, only pairs of one group are looked at; whole coordinates then are below 2^31.
+    With ``floors`` points below that of a block are not looked at with it.
     """
     left, right, place = blocks.left, blocks.right, points[:, 0]
     if groups is not None:
@@ -224,6 +228,9 @@ def crossings(
     px, py = _columns(points[order])
     for block, point in _pairs(left, right, place[order]):
         y = py[point]
+        if floors is not None:
+            worth = y >= floors[block]
+            block, point, y = block[worth], point[worth], y[worth]
         over, beside = blocks.low[block] > y, blocks.high[block] >= y
         beside &= ~over
         for pairs in (
@@ -383,14 +390,40 @@ def held_by(
     row = row[np.argsort(named, kind="stable")]
     uses = np.bincount(named, minlength=blocks.line_count)
     firsts = starts_of(uses)[:-1]
+    bottoms = _bottoms(blocks, rows)
+    floors = np.full(blocks.line_count, _limits(blocks.y.dtype)[1])
+    floors[uses > 0] = np.minimum.reduceat(bottoms[row], firsts[uses > 0]) if len(row) else 0
     pieces = [np.empty(0, dtype=np.int64)]
-    for block, point, _ in crossings(blocks, points):
+    for block, point, _ in crossings(blocks, points, floors=floors[blocks.line]):
         line = blocks.line[block]
         counts = uses[line]
         crossed = row[np.repeat(firsts[line], counts) + within(counts)]
-        pieces.append(np.repeat(point * len(row_starts), counts) + crossed)
+        point = np.repeat(point, counts)
+        over = points[point, 1] >= bottoms[crossed]
+        pieces.append(point[over] * len(row_starts) + crossed[over])
     keys = np.sort(odd_times(np.concatenate(pieces)))
     return keys // len(row_starts), keys % len(row_starts)
+
+
+def _limits(kind: Any) -> tuple[Any, Any]:
+    """Give the least and the greatest value of a kind of numbers."""
+    if kind.kind == "f":
+        return -np.inf, np.inf
+    return np.iinfo(kind).min, np.iinfo(kind).max
+
+
+def _bottoms(blocks: Blocks, rows: tuple[Integers, Integers]) -> Any:
+    """Give for each row its least y. A row holds no point below it."""
+    named, row_starts = rows
+    lows = np.full(blocks.line_count, _limits(blocks.y.dtype)[1])
+    first = np.flatnonzero(np.diff(blocks.line, prepend=-1))
+    if len(first):
+        lows[blocks.line[first]] = np.minimum.reduceat(blocks.low, first)
+    bottoms = np.full(len(row_starts) - 1, _limits(blocks.y.dtype)[1])
+    full = np.flatnonzero(np.diff(row_starts) > 0)
+    if len(full):
+        bottoms[full] = np.minimum.reduceat(lows[named], row_starts[full])
+    return bottoms
 
 
 def rows_named(topology: Topology) -> tuple[Integers, Integers]:

@@ -398,7 +398,7 @@ def make_topology(
     Otherwise the package's own way makes it. Either way the rings are put together again and
     compared: NotConfirmed where one differs.
     """
-    made, built_by = _by_command(snapped, towns, command), "build"
+    made, built_by = _by_command(snapped, command), "build"
     if made is None:
         made, built_by = _by_package(snapped), "muchiqen"
     topology, named, geometries = made
@@ -416,17 +416,17 @@ def make_topology(
 _Made = tuple[Topology, Named, list[dict[str, Any]]]
 
 
-def _by_command(snapped: cover.Snapped, towns: Places | None, command: Command) -> _Made | None:
+def _by_command(snapped: cover.Snapped, command: Command) -> _Made | None:
+    """Towns do not go along: points have no part in what ``build`` makes of rings."""
     fits = len(snapped.places) + len(snapped.starts) <= MOST_RING_POSITIONS
-    count = 0 if towns is None else len(towns)
-    fits = fits and max(snapped.layout.row_count, count) < MOST_POSITIONS
+    fits = fits and snapped.layout.row_count < MOST_POSITIONS
     if not fits or not command.has_build():
         return None
-    text = cover.geojson(snapped, towns)
+    text = cover.geojson(snapped)
     if len(text) > MOST_BYTES:
         return None
     topology = read(command.build(text))
-    geometries = rows_of(topology.objects["features"])[: snapped.layout.row_count]
+    geometries = rows_of(topology.objects["features"])
     shapes = (parts_of(geometry) for geometry in geometries)
     return topology, Named.of([parts for parts in shapes if parts is not None]), geometries
 

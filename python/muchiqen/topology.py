@@ -223,6 +223,16 @@ def starts_of(counts: Any) -> Integers:
     return starts
 
 
+def columns_at(rows: Any, at: Any) -> Any:
+    """Give some rows of an array of two columns, each column in one piece."""
+    return np.stack((rows[:, 0][at], rows[:, 1][at])).T
+
+
+def closed(starts: Integers) -> Integers:
+    """Give the numbers of the positions of rings, each with its first one again at its end."""
+    return np.insert(np.arange(starts[-1]), starts[1:], starts[:-1])
+
+
 def within(counts: Integers) -> Integers:
     """Give 0, 1, .. up to each count, one after the other."""
     ends = np.cumsum(counts)
@@ -278,30 +288,34 @@ def _spelled(rows: Places, last: npt.NDArray[np.bool_]) -> bytes:
     """
     if not len(rows):
         return b""
-    heads = np.zeros((2, len(rows), 2), dtype=np.uint8)
-    heads[0, :, 0], heads[1, :, 0] = _OPEN, _COMMA
-    heads[..., 1] = np.where(rows.T < 0, _MINUS, 0)
-    ends = np.zeros((len(rows), 4), dtype=np.uint8)
-    ends[:, 0], ends[:, 1] = _CLOSE, _COMMA
-    ends[last] = (_CLOSE, _CLOSE, _COMMA, _OPEN)
+    words = []
+    for axis, mark in ((0, b"["), (1, b",")):
+        column = rows[:, axis]
+        words += [np.where(column < 0, _word(mark + b"-"), _word(mark)), *_digits(np.abs(column))]
+    ends = np.where(last, _word(b"]],["), _word(b"],"))
     if last[-1]:
-        ends[-1] = (_CLOSE, _CLOSE, 0, 0)
-    numbers = np.abs(rows)
-    columns = (heads[0], _digits(numbers[:, 0]), heads[1], _digits(numbers[:, 1]), ends)
-    return np.concatenate(columns, axis=1).tobytes().translate(None, b"\0")
+        ends[-1] = _word(b"]]")
+    spelled = np.empty((len(rows), len(words) + 1), dtype=np.uint32)
+    for at, word in enumerate((*words, ends)):
+        spelled[:, at] = word
+    return spelled.tobytes().translate(None, b"\0")
 
 
-def _digits(numbers: Integers) -> npt.NDArray[np.uint8]:
-    """Give a row of ASCII digits for each number from 0 to 10^12, with bytes 0 before them."""
-    wide = (len(str(int(numbers.max()))) + 3) // 4
-    fours = np.empty((len(numbers), wide), dtype=np.uint32)
+def _word(text: bytes) -> np.uint32:
+    """Give up to four bytes as a number."""
+    return np.uint32(np.frombuffer(text.ljust(4, b"\0"), dtype=np.uint32)[0])
+
+
+def _digits(numbers: Integers) -> list[npt.NDArray[np.uint32]]:
+    """Give the ASCII digits of numbers from 0 to 10^12 by fours, with bytes 0 before them."""
+    fours: list[npt.NDArray[np.uint32]] = []
     left = numbers
-    for at in range(wide - 1, -1, -1):
+    for at in range((len(str(int(numbers.max()))) + 3) // 4):
         more = left // 10_000
-        table = _LOWEST_FOUR if at == wide - 1 else _OTHER_FOUR
-        fours[:, at] = table[left - more * 10_000 + 10_000 * (more > 0)]
+        table = _OTHER_FOUR if at else _LOWEST_FOUR
+        fours.insert(0, table[left - more * 10_000 + 10_000 * (more > 0)])
         left = more
-    return fours.view(np.uint8)
+    return fours
 
 
 def _fours(zero: bytes) -> npt.NDArray[np.uint32]:
@@ -323,7 +337,7 @@ def _lone_twice(places: Places, starts: Integers) -> tuple[Places, Integers]:
 
 _CHUNK = 20_000
 _NUMBERS = re.compile(r"[-+\[\]\d\s,.eE]+")
-_OPEN, _CLOSE, _COMMA, _MINUS = ord("["), ord("]"), ord(","), ord("-")
+_OPEN, _CLOSE = ord("["), ord("]")
 _LOWEST_FOUR, _OTHER_FOUR = _fours(b"0"), _fours(b"")
 _BLANKS = bytes.maketrans(b"[],\t\r\n", b"      ")
 
@@ -334,12 +348,11 @@ def read(text: bytes) -> Topology:
     Raises NotUtf8, NotJson or NotATopology. It is no substitute for the command's own reader, which
     judges every text that is thinned: it takes out what this package wants.
     """
-    spans = _members(text)
-    if "arcs" not in spans:
+    members, (low, high) = _members(text)
+    order = list(members)
+    if "arcs" not in members:
         raise NotATopology("missing member", 0)
-    low, high = spans["arcs"]
-    order = list(spans)
-    members = {key: json.loads(text[a:b]) for key, (a, b) in spans.items() if key != "arcs"}
+    del members["arcs"]
     if members.get("type") != "Topology" or not isinstance(members.get("objects"), dict):
         raise NotATopology("wrong type", 0)
     places, starts = read_arcs(text[low:high], low)
@@ -357,28 +370,25 @@ def _undo_differences(rows: Places, starts: Integers) -> Places:
     return np.asarray(sums - np.repeat(before, np.diff(starts), axis=0), dtype=np.int64)
 
 
-def _members(text: bytes) -> dict[str, tuple[int, int]]:
-    """Give the span of the value of each top member."""
+def _members(text: bytes) -> tuple[dict[str, Any], tuple[int, int]]:
+    """Give the value of each top member, of ``arcs`` None and its span in the text."""
     try:
         shown = text.decode()
     except UnicodeDecodeError as error:
         raise NotUtf8(error.start) from error
+    members: dict[str, Any] = {}
+    low = high = 0
+    for key, start, end, value in _scan_members(shown):
+        members[key] = value
+        if key == "arcs":
+            low, high = start, end
     if len(shown) != len(text):
-        return _members_of_wide(shown)
-    return {key: (a, b) for key, a, b in _scan_members(shown)}
+        low, high = len(shown[:low].encode()), len(shown[:high].encode())
+    return members, (low, high)
 
 
-def _members_of_wide(shown: str) -> dict[str, tuple[int, int]]:
-    spans, at, done = {}, 0, 0
-    for key, low, high in _scan_members(shown):
-        at += len(shown[done:low].encode())
-        start = at
-        at += len(shown[low:high].encode())
-        spans[key], done = (start, at), high
-    return spans
-
-
-def _scan_members(shown: str) -> Iterator[tuple[str, int, int]]:
+def _scan_members(shown: str) -> Iterator[tuple[str, int, int, Any]]:
+    """Give the name of each top member, where its value begins and ends, and the value."""
     decoder = json.JSONDecoder()
     try:
         at = _skip(shown, 1 if shown.startswith("\ufeff") else 0)
@@ -389,8 +399,12 @@ def _scan_members(shown: str) -> Iterator[tuple[str, int, int]]:
         while shown[at : at + 1] == '"':
             key, at = decoder.raw_decode(shown, at)
             at = _expect(shown, _skip(shown, at), ":")
-            end = _end_of_numbers(shown, at) if key == "arcs" else decoder.raw_decode(shown, at)[1]
-            yield key, at, end
+            value = None
+            if key == "arcs":
+                end = _end_of_numbers(shown, at)
+            else:
+                value, end = decoder.raw_decode(shown, at)
+            yield key, at, end, value
             at = _skip(shown, end)
             if shown[at : at + 1] == ",":
                 at = _skip(shown, at + 1)

@@ -38,7 +38,7 @@ def test_what_build_writes(command: Command, tmp_path: Path, lakeland: gpd.GeoDa
         pytest.skip("the program has no form build")
     rings = coverage.snapped(coverage.rings_of(lakeland), muchiqen.Grid((0.001, 0.001)), [])
     before, after = tmp_path / "before.geojson", tmp_path / "after.topojson"
-    before.write_bytes(coverage.geojson(rings, None))
+    before.write_bytes(coverage.geojson(rings))
     after.write_bytes(command.build(before.read_bytes()))
     assert features(before) == features(after) == [len(lakeland)]
 

@@ -338,7 +338,7 @@ def test_both_ways_to_a_topology_agree(command: Command, two_rows: gpd.GeoDataFr
     if not command.has_build():
         pytest.skip("the program has no form build")
     snapped = coverage.snapped(coverage.rings_of(two_rows), muchiqen.Grid(), ["w", "e"])
-    by_command = read(command.build(coverage.geojson(snapped, None)))
+    by_command = read(command.build(coverage.geojson(snapped)))
     own = build.build(snapped.places, snapped.starts)
     assert np.array_equal(by_command.places, own.places)
     assert np.array_equal(by_command.starts, own.starts)
