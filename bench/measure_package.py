@@ -72,6 +72,7 @@ def measure_frame(path: pathlib.Path, tolerance: float, repeat: int) -> None:
     frame, towns = frame_of(topology, crs="EPSG:4326"), towns_of(topology)
     own, runs, alone = [], [], []
     for _ in range(repeat + 1):
+        thinned = None  # what the call before gave is freed before the clock starts
         before = used(resource.RUSAGE_SELF), used(resource.RUSAGE_CHILDREN)
         thinned = muchiqen.simplify(frame, tolerance, towns, program=command)
         own.append(used(resource.RUSAGE_SELF) - before[0])

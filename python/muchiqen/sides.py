@@ -183,6 +183,8 @@ class Blocks:
         self.first = starts[self.line] + number * _BLOCK
         self.last = np.minimum(self.first + _BLOCK, starts[self.line + 1] - 1)
         self.x, self.y = _columns(coordinates)
+        self.begins = self.x[self.first], self.y[self.first]
+        self.ends = self.x[self.last], self.y[self.last]
         self.left, self.right = self._ends_of(self.x)
         self.low, self.high = self._ends_of(self.y)
 
@@ -245,9 +247,8 @@ def _over(
 ) -> tuple[Integers, Integers, Integers]:
     """Of blocks over the points: those with ends on both sides of the ray."""
     x, y = px[point], py[point]
-    first, last = blocks.first[block], blocks.last[block]
-    begins = _comes_before(blocks.x[first], blocks.y[first], x, y)
-    ends = _comes_before(blocks.x[last], blocks.y[last], x, y)
+    begins = _comes_before(blocks.begins[0][block], blocks.begins[1][block], x, y)
+    ends = _comes_before(blocks.ends[0][block], blocks.ends[1][block], x, y)
     hit = begins != ends
     return block[hit], point[hit], np.where(begins[hit], 1, -1)
 
