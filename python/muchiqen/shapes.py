@@ -252,7 +252,7 @@ def _read(kind: int, bodies: list[bytes]) -> Objects:
     return np.fromiter(made, dtype=object, count=len(bodies))
 
 
-def _members(whole: Any, kind: type, count: int) -> Iterator[Any]:
+def _members(whole: Any, kind: Any, count: int) -> Iterator[Any]:
     """Give the members of a collection, all of one kind, none empty, as ``whole.geoms`` does.
 
     Shapely 1.8 sets each attribute of each member by a call; here they are set at once.

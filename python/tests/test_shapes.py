@@ -1,4 +1,4 @@
-"""Geometries by WKB, lists of numbers as JSON, and checks of arranged maps beside the plain ones."""
+"""Geometries by WKB, lists of numbers as JSON, checks of arranged maps beside the plain ones."""
 
 import json
 
