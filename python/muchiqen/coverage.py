@@ -1,18 +1,18 @@
 """From a GeoDataFrame of polygons to rings on the grid, and to the GeoJSON that ``build`` reads."""
 
+from collections.abc import Sequence
 from dataclasses import dataclass
 from typing import Any
 
 import geopandas as gpd
 import numpy as np
 import numpy.typing as npt
-import pandas as pd
 from shapely.geometry import MultiPolygon, Polygon
 
 from .errors import NotACoverage
 from .grid import Coordinates, Grid, Places, extent
-from .shapes import Flags, Layout, take_apart
-from .topology import Integers, closed, columns_at, lists_text, starts_of
+from .shapes import Flags, Layout, Objects, take_apart
+from .topology import Integers, alike, closed, columns_at, lists_text, starts_of
 
 
 @dataclass
@@ -166,17 +166,14 @@ def _without_flat(
 
 def _joined_notes(coordinates: Coordinates, places: Places) -> list[str]:
     """Say where positions that were apart came together on the grid."""
-    numbers, _ = pd.factorize((places[:, 0] << 31) + places[:, 1])
-    some = np.empty(len(places), dtype=np.int64)
-    some[numbers] = np.arange(len(places))
-    others = some[numbers]
+    others = alike((places[:, 0] << 31) + places[:, 1])
     x, y = coordinates[:, 0], coordinates[:, 1]
     differs = (x != x[others]) | (y != y[others])
     if not differs.any():
         return []
     mixed = np.zeros(len(places), dtype=bool)
-    mixed[numbers[differs]] = True
-    at = np.flatnonzero(mixed[numbers])
+    mixed[others[differs]] = True
+    at = np.flatnonzero(mixed[others])
     coordinates, places = coordinates[at], places[at]
     order = np.lexsort((coordinates[:, 1], coordinates[:, 0], places[:, 1], places[:, 0]))
     found, where = coordinates[order], places[order]
@@ -197,30 +194,33 @@ def _joined_notes(coordinates: Coordinates, places: Places) -> list[str]:
 
 def geojson(rings: Snapped) -> bytes:
     """Give the FeatureCollection that ``build`` reads: one feature a row."""
-    features = [_feature(shape) for shape in _shapes(rings)]
-    return b'{"type":"FeatureCollection","features":[' + b",".join(features) + b"]}"
+    rows = row_texts(_ring_texts(rings), rings.layout, b"coordinates")
+    if not len(rows):
+        return b'{"type":"FeatureCollection","features":[]}'
+    features = b'},{"type":"Feature","geometry":'.join(rows)
+    start = b'{"type":"FeatureCollection","features":[{"type":"Feature","geometry":'
+    return start + features + b"}]}"
 
 
-def _feature(geometry: bytes) -> bytes:
-    return b'{"type":"Feature","geometry":' + geometry + b"}"
+def row_texts(rings: Sequence[bytes], layout: Layout, member: bytes) -> Objects:
+    """Give each row as a JSON geometry; ``rings`` are the texts of its rings in ``member``."""
+    rows = np.full(layout.row_count, b"null", dtype=object)
+    full = np.diff(layout.parts) > 0
+    parts = _joined(np.array(rings, dtype=object), layout.rings, b",")
+    bodies = _joined(parts, layout.parts[np.append(full, True)], b"],[")
+    multi = layout.multi[full].astype(np.int64)
+    one, many = b'{"type":"Polygon","%s":[' % member, b'{"type":"MultiPolygon","%s":[[' % member
+    begins, ends = np.array([one, many], dtype=object), np.array([b"]}", b"]]}"], dtype=object)
+    rows[full] = begins[multi] + bodies + ends[multi]
+    return rows
 
 
-def _shapes(rings: Snapped) -> list[bytes]:
-    """Give the GeoJSON geometry of each row."""
-    layout = rings.layout
-    texts = _ring_texts(rings)
-    ends = layout.rings.tolist()
-    parts = [b"[" + b",".join(texts[a:b]) + b"]" for a, b in zip(ends, ends[1:], strict=False)]
-    cuts, shapes = layout.parts.tolist(), []
-    for low, high, multi in zip(cuts, cuts[1:], layout.multi.tolist(), strict=False):
-        if low == high:
-            shapes.append(b"null")
-        elif multi:
-            whole = b",".join(parts[low:high])
-            shapes.append(b'{"type":"MultiPolygon","coordinates":[' + whole + b"]}")
-        else:
-            shapes.append(b'{"type":"Polygon","coordinates":' + parts[low] + b"}")
-    return shapes
+def _joined(texts: Objects, starts: Integers, mark: bytes) -> Objects:
+    """Join texts ``starts[i]`` to ``starts[i + 1]``, one or more, with a mark between them."""
+    made: Objects = texts[starts[:-1]]
+    for at in np.flatnonzero(np.diff(starts) > 1).tolist():
+        made[at] = mark.join(texts[starts[at] : starts[at + 1]].tolist())
+    return made
 
 
 def _ring_texts(rings: Snapped) -> list[bytes]:

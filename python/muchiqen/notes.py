@@ -15,16 +15,15 @@ from shapely.geometry import LineString, Point
 from . import survey
 from .build import keys_of
 from .errors import NotConfirmed
-from .grid import Places
 from .meetings import Held
 from .shapes import Flags, Objects, are_valid
 from .sides import (
     Blocks,
+    Cells,
     Sides,
     close_to,
     held,
     held_by,
-    in_boxes,
     rows_named,
     thinned_boxes,
 )
@@ -133,8 +132,9 @@ def town_notes(work: "Work", after: Topology) -> list[str]:
     towns = work.topology.points()[-count:]
     arcs = np.arange(work.topology.arc_count)
     blocks = Blocks(work.topology.places, work.topology.starts, arcs)
-    on_grid = held_by(blocks, rows, towns)
-    some = _may_change(work.topology, after, towns)
+    cells = Cells(towns)
+    on_grid = held_by(blocks, rows, cells)
+    some = _may_change(work.topology, after, cells)
     thinned = held(after.places, after.starts, rows, towns[some])
     wanted = _of_towns(on_grid, some)
     if not all(np.array_equal(a, b) for a, b in zip(wanted, thinned, strict=True)):
@@ -145,21 +145,22 @@ def town_notes(work: "Work", after: Topology) -> list[str]:
     outside = np.bincount(on_grid[0], minlength=count) == 0
     notes = []
     if work.rings is not None:
-        notes += _moved_notes(work, _may_move(work, blocks, towns), on_grid, outside)
+        notes += _moved_notes(work, _may_move(work, blocks, cells), on_grid, outside)
     if outside.any():
         labels = [work.town_labels[at] for at in np.flatnonzero(outside)[:6]]
         notes.append(f"{outside.sum()} towns are in no row: {_some(labels)}")
     return notes
 
 
-def _may_change(before: Topology, after: Topology, towns: Places) -> Integers:
+def _may_change(before: Topology, after: Topology, towns: Cells) -> Integers:
     """Give the towns that thinning can have brought elsewhere: those beside a run that it cut."""
-    few = len(towns) * _TOWNS_WORTH < len(before.places)
+    count = len(towns.x)
+    few = count * _TOWNS_WORTH < len(before.places)
     boxes = None if few else thinned_boxes(before, after)
     if boxes is None:
-        return np.arange(len(towns))
-    beside = np.zeros(len(towns), dtype=bool)
-    for _, town in in_boxes(*boxes, towns):
+        return np.arange(count)
+    beside = np.zeros(count, dtype=bool)
+    for _, town in towns.in_boxes(*boxes):
         beside[town] = True
     return np.flatnonzero(beside)
 
@@ -197,17 +198,17 @@ def _moved_notes(
     return notes
 
 
-def _may_move(work: "Work", blocks: Blocks, places: Places) -> tuple[Integers, Integers]:
+def _may_move(work: "Work", blocks: Blocks, towns: Cells) -> tuple[Integers, Integers]:
     """Give the towns that snapping can have brought elsewhere, and the rows it can be by.
 
     Only a town close to an edge can, and only by the rows with that edge.
     """
     named = work.topology.named
     if work.lost_rings:
-        return np.arange(len(places)), np.arange(named.count)
-    towns, arcs = close_to(blocks, places, _CLOSE)
+        return np.arange(len(towns.x)), np.arange(named.count)
+    moving, arcs = close_to(blocks, towns, _CLOSE)
     by = np.isin(named.arcs, arcs)
-    return np.unique(towns), np.unique(named.polygon_of_rings[named.ring_of_references[by]])
+    return np.unique(moving), np.unique(named.polygon_of_rings[named.ring_of_references[by]])
 
 
 def _held_as_they_came(work: "Work", towns: Integers, rows: Integers) -> tuple[Integers, Integers]:

@@ -5,7 +5,7 @@ by parity for the rows that hold it, by direction for how many cover it.
 """
 
 import math
-from collections.abc import Iterator
+from collections.abc import Iterable, Iterator
 from functools import cached_property
 from typing import Any
 
@@ -14,7 +14,7 @@ import pandas as pd
 
 from .grid import Places
 from .shapes import Flags
-from .topology import Integers, Topology, starts_of, within
+from .topology import Integers, Topology, alike, starts_of, within
 
 _PAIRS = 2_000_000
 _BLOCK = 16
@@ -144,8 +144,10 @@ class Sides:
         ``weight`` is by how much a line covers its left more than its right.
         """
         blocks = Blocks(2 * self.topology.places, self.topology.starts, lines)
+        points = _columns(self.middles(arcs))
+        pairs = _pairs(blocks, points[0], of[blocks.of], groups)
         found = np.zeros(len(arcs), dtype=np.int64)
-        for block, point, way in crossings(blocks, self.middles(arcs), (of[blocks.of], groups)):
+        for block, point, way in crossings(blocks, points, pairs):
             weights = way * weight[blocks.of[block]]
             found -= np.bincount(point, weights, len(arcs)).astype(np.int64)
         return found
@@ -210,36 +212,20 @@ class Blocks:
 
 
 def crossings(
-    blocks: Blocks,
-    points: Any,
-    groups: tuple[Integers, Integers] | None = None,
-    floors: Any = None,
+    blocks: Blocks, points: tuple[Any, Any], pairs: Iterable[tuple[Integers, Integers]]
 ) -> Iterator[tuple[Integers, Integers, Integers]]:
     """Give, in runs, blocks, points whose ray crosses them, and which way the ray is crossed.
 
-    The third is 1 where a line crosses the ray to the right, -1 where it does so to the left; what
-    crosses to and fro within a block may be left out in pairs. With ``groups``, of the blocks and
-    of the points, only pairs of one group are looked at; whole coordinates then are below 2^31.
-    With ``floors`` points below that of a block are not looked at with it.
+    Of ``pairs`` of a block and a point over or under it; ``points`` are their x and their y. The
+    third is 1 where a line crosses the ray to the right, -1 where it does so to the left; what
+    crosses to and fro within a block may be left out in pairs.
     """
-    left, right, place = blocks.left, blocks.right, points[:, 0]
-    if groups is not None:
-        shift = groups[0] << 32
-        left, right, place = left + shift, right + shift, place + (groups[1] << 32)
-    order = np.argsort(place, kind="stable")
-    px, py = _columns(points[order])
-    for block, point in _pairs(left, right, place[order]):
-        y = py[point]
-        if floors is not None:
-            worth = y >= floors[block]
-            block, point, y = block[worth], point[worth], y[worth]
+    for block, point in pairs:
+        y = points[1][point]
         over, beside = blocks.low[block] > y, blocks.high[block] >= y
         beside &= ~over
-        for pairs in (
-            _over(blocks, block[over], point[over], px, py),
-            _beside(blocks, block[beside], point[beside], px, py),
-        ):
-            yield pairs[0], order[pairs[1]], pairs[2]
+        yield _over(blocks, block[over], point[over], *points)
+        yield _beside(blocks, block[beside], point[beside], *points)
 
 
 def _over(
@@ -275,28 +261,36 @@ def _comes_before(x: Any, y: Any, u: Any, v: Any) -> Flags:
     return np.asarray((x < u) | ((x == u) & (y < v)))
 
 
-def close_to(blocks: Blocks, points: Places, margin: int) -> tuple[Integers, Integers]:
+def close_to(blocks: Blocks, cells: "Cells", margin: int) -> tuple[Integers, Integers]:
     """Give pairs of a point and a line that may be within ``margin`` grid steps on each axis.
 
     No pair that is so close is left out; one that is given may be a little further away.
     """
     close, arcs = [np.empty(0, dtype=np.int64)], [np.empty(0, dtype=np.int64)]
-    low = np.column_stack((blocks.left, blocks.low)) - margin
-    high = np.column_stack((blocks.right, blocks.high)) + margin
-    for block, point in in_boxes(low, high, points):
+    across = blocks.left - margin, blocks.right + margin
+    up = blocks.low - margin, blocks.high + margin
+    for block, point in cells.in_boxes(across, up):
         block, edge, point = blocks.edges(block, point)
-        x, y = points[point, 0] - blocks.x[edge], points[point, 1] - blocks.y[edge]
-        across = blocks.x[edge + 1] - blocks.x[edge]
-        up = blocks.y[edge + 1] - blocks.y[edge]
-        near = (np.minimum(across, 0) - margin <= x) & (x <= np.maximum(across, 0) + margin)
-        near &= (np.minimum(up, 0) - margin <= y) & (y <= np.maximum(up, 0) + margin)
-        near &= np.abs(across * y - up * x) <= margin * (np.abs(across) + np.abs(up))
+        near = _is_near(blocks, edge, cells.x[point], cells.y[point], margin)
         close.append(point[near])
         arcs.append(blocks.line[block[near]])
     return np.concatenate(close), np.concatenate(arcs)
 
 
-def thinned_boxes(before: Topology, after: Topology) -> tuple[Places, Places] | None:
+def _is_near(blocks: Blocks, edge: Integers, x: Any, y: Any, margin: int) -> Flags:
+    x, y = x - blocks.x[edge], y - blocks.y[edge]
+    across, up = blocks.x[edge + 1] - blocks.x[edge], blocks.y[edge + 1] - blocks.y[edge]
+    near = (np.minimum(across, 0) - margin <= x) & (x <= np.maximum(across, 0) + margin)
+    near &= (np.minimum(up, 0) - margin <= y) & (y <= np.maximum(up, 0) + margin)
+    near &= np.abs(across * y - up * x) <= margin * (np.abs(across) + np.abs(up))
+    return near
+
+
+Ranges = tuple[Any, Any]
+"""The least and the greatest value of each box on an axis."""
+
+
+def thinned_boxes(before: Topology, after: Topology) -> tuple[Ranges, Ranges] | None:
     """Give the boxes round the runs of positions that were dropped, with the ends of each run.
 
     A place outside them is on the same side of each arc, before and after. None where the arcs
@@ -307,67 +301,111 @@ def thinned_boxes(before: Topology, after: Topology) -> tuple[Places, Places] | 
         return None
     count = len(before.places)
     both = np.concatenate((before.places, after.places))
-    numbers, found = pd.factorize((both[:, 0] << 31) + both[:, 1])
+    group = alike((both[:, 0] << 31) + both[:, 1])
     inner = np.ones(count, dtype=bool)
     inner[before.starts[:-1]], inner[before.starts[1:] - 1] = False, False
-    place = np.full(len(found), -1, dtype=np.int64)
-    place[numbers[:count][inner]] = np.flatnonzero(inner)
-    if np.bincount(numbers[:count][inner], minlength=1).max() > 1:
+    inner = np.flatnonzero(inner)
+    place = np.full(len(both), -1, dtype=np.int64)
+    place[group[inner]] = inner
+    if (place[group[inner]] != inner).any():
         return None
-    at = place[numbers[count:]]
+    at = place[group[count:]]
     at[after.starts[:-1]], at[after.starts[1:] - 1] = before.starts[:-1], before.starts[1:] - 1
     if (at < 0).any() or (np.diff(at) <= 0).any() or (both[at] != after.places).any():
         return None
     runs = np.flatnonzero(np.diff(at) > 1)
     runs = runs[~np.isin(runs, after.starts[1:] - 1)]
-    columns = []
-    for values in _columns(before.places):
-        low, high = np.minimum.reduceat(values, at)[runs], np.maximum.reduceat(values, at)[runs]
-        last = values[at[runs + 1]]
-        columns += [np.minimum(low, last), np.maximum(high, last)]
-    return np.column_stack(columns[::2]), np.column_stack(columns[1::2])
+    x, y = _columns(before.places)
+    return _range_of(x, at, runs), _range_of(y, at, runs)
 
 
-def in_boxes(low: Places, high: Places, points: Places) -> Iterator[tuple[Integers, Integers]]:
-    """Give, in runs, pairs of a box and a point in it; the edges of a box belong to it.
+def _range_of(values: Any, at: Integers, runs: Integers) -> Ranges:
+    """Give the least and the greatest value from ``at[r]`` to ``at[r + 1]``, of some r."""
+    last = values[at[runs + 1]]
+    low, high = np.minimum.reduceat(values, at)[runs], np.maximum.reduceat(values, at)[runs]
+    return np.minimum(low, last), np.maximum(high, last)
 
-    Points are sorted into the cells of a square grid, by rows; a box looks at its part of each row.
-    """
-    side = max(1, math.isqrt(len(points)))
-    corner = points.min(axis=0) if len(points) else np.zeros(2, dtype=np.int64)
-    size = (points.max(axis=0) - corner) // side + 1 if len(points) else corner + 1
-    column, row = _columns((points - corner) // size)
-    order = np.argsort(row * side + column, kind="stable")
-    firsts = starts_of(np.bincount(row * side + column, minlength=side * side))
-    worth = np.flatnonzero((high >= corner).all(axis=1) & (low < corner + size * side).all(axis=1))
-    left, bottom = _columns(np.maximum((low[worth] - corner) // size, 0))
-    right, top = _columns(np.minimum((high[worth] - corner) // size, side - 1))
-    rows = top - bottom + 1
-    at = np.repeat(np.arange(len(worth)), rows)
-    line = (bottom[at] + within(rows)) * side
-    first = firsts[line + left[at]]
-    counts = firsts[line + right[at] + 1] - first
-    for start, end in _chunks(counts):
-        some = np.arange(start, end)
-        box = worth[at[np.repeat(some, counts[some])]]
-        point = order[np.repeat(first[some], counts[some]) + within(counts[some])]
-        inside = ((points[point] >= low[box]) & (points[point] <= high[box])).all(axis=1)
-        yield box[inside], point[inside]
+
+class Cells:
+    """Points, sorted into the cells of a grid: strip over strip, in each from left to right."""
+
+    def __init__(self, points: Any) -> None:
+        self.x, self.y = _columns(points)
+        self._strips = max(1, math.isqrt(len(points)))
+        self._columns = 4 * self._strips
+        cell = self._strip(self.y) * self._columns + self._column(self.x)
+        self._order = np.argsort(cell, kind="stable")
+        self._firsts = starts_of(np.bincount(cell, minlength=self._strips * self._columns))
+
+    def _column(self, x: Any) -> Integers:
+        return _part(x, self.x, self._columns)
+
+    def _strip(self, y: Any) -> Integers:
+        return _part(y, self.y, self._strips)
+
+    def in_boxes(self, across: Ranges, up: Ranges) -> Iterator[tuple[Integers, Integers]]:
+        """Give, in runs, pairs of a box and a point in it; the edges of a box belong to it.
+
+        A box looks at its part of each strip.
+        """
+        if not len(self.x):
+            return
+        worth = np.flatnonzero(_meets(across, self.x) & _meets(up, self.y))
+        left, right = (self._column(x[worth]) for x in across)
+        bottom, top = (self._strip(y[worth]) for y in up)
+        counts = top - bottom + 1
+        box = np.repeat(np.arange(len(worth)), counts)
+        line = (np.repeat(bottom, counts) + within(counts)) * self._columns
+        first = self._firsts[line + left[box]]
+        counts = self._firsts[line + right[box] + 1] - first
+        full = np.flatnonzero(counts)
+        box, first, counts = worth[box[full]], first[full], counts[full]
+        for start, end in _chunks(counts):
+            some = slice(start, end)
+            which = np.repeat(box[some], counts[some])
+            point = self._order[np.repeat(first[some], counts[some]) + within(counts[some])]
+            x, y = self.x[point], self.y[point]
+            inside = (across[0][which] <= x) & (x <= across[1][which])
+            inside &= (up[0][which] <= y) & (y <= up[1][which])
+            yield which[inside], point[inside]
+
+
+def _part(values: Any, points: Any, count: int) -> Integers:
+    """Give which of ``count`` equal parts of the points' range values are in, rising with them."""
+    if not len(points):
+        return np.zeros(len(values), dtype=np.int64)
+    low, high = points.min(), points.max()
+    parts = (np.clip(values, low, high) - low) / ((high - low) or 1) * count
+    return np.minimum(parts.astype(np.int64), count - 1)
+
+
+def _meets(ranges: Ranges, points: Any) -> Flags:
+    """Tell which ranges are not empty and may hold one of the points."""
+    low, high = ranges
+    return np.asarray((low <= high) & (high >= points.min()) & (low <= points.max()))
 
 
 def _columns(rows: Any) -> tuple[Any, Any]:
     return np.ascontiguousarray(rows[:, 0]), np.ascontiguousarray(rows[:, 1])
 
 
-def _pairs(low: Any, high: Any, place: Any) -> Iterator[tuple[Integers, Integers]]:
-    """Give, in runs, pairs of a block and a point that is from its low to its high; rising."""
-    first = np.searchsorted(place, low, "left")
-    counts = np.searchsorted(place, high, "right") - first
+def _pairs(
+    blocks: Blocks, place: Any, of: Integers, groups: Integers
+) -> Iterator[tuple[Integers, Integers]]:
+    """Give, in runs, pairs of a block and a point from its left to its right, of one group.
+
+    ``place`` are the x of the points, below 2^31.
+    """
+    shift, place = of << 32, place + (groups << 32)
+    order = np.argsort(place, kind="stable")
+    place = place[order]
+    first = np.searchsorted(place, blocks.left + shift, "left")
+    counts = np.searchsorted(place, blocks.right + shift, "right") - first
     worth = np.flatnonzero(counts > 0)
     for start, end in _chunks(counts[worth]):
         some = worth[start:end]
         block = np.repeat(some, counts[some])
-        yield block, np.repeat(first[some], counts[some]) + within(counts[some])
+        yield block, order[np.repeat(first[some], counts[some]) + within(counts[some])]
 
 
 def held(
@@ -379,13 +417,16 @@ def held(
     """
     used = np.zeros(len(starts) - 1, dtype=bool)
     used[rows[0]] = True
-    return held_by(Blocks(coordinates, starts, np.flatnonzero(used)), rows, points)
+    return held_by(Blocks(coordinates, starts, np.flatnonzero(used)), rows, Cells(points))
 
 
 def held_by(
-    blocks: Blocks, rows: tuple[Integers, Integers], points: Any
+    blocks: Blocks, rows: tuple[Integers, Integers], cells: Cells
 ) -> tuple[Integers, Integers]:
-    """Give the same as ``held``, by blocks of all lines that the rows name, or of more."""
+    """Give the same as ``held``, by blocks of all lines that the rows name, or of more.
+
+    A row holds no point below it, so a block is no matter for points below all its rows.
+    """
     named, row_starts = rows
     row = np.repeat(np.arange(len(row_starts) - 1), np.diff(row_starts))
     row = row[np.argsort(named, kind="stable")]
@@ -394,13 +435,14 @@ def held_by(
     bottoms = _bottoms(blocks, rows)
     floors = np.full(blocks.line_count, _limits(blocks.y.dtype)[1])
     floors[uses > 0] = np.minimum.reduceat(bottoms[row], firsts[uses > 0]) if len(row) else 0
+    pairs = cells.in_boxes((blocks.left, blocks.right), (floors[blocks.line], blocks.high))
     pieces = [np.empty(0, dtype=np.int64)]
-    for block, point, _ in crossings(blocks, points, floors=floors[blocks.line]):
+    for block, point, _ in crossings(blocks, (cells.x, cells.y), pairs):
         line = blocks.line[block]
         counts = uses[line]
         crossed = row[np.repeat(firsts[line], counts) + within(counts)]
         point = np.repeat(point, counts)
-        over = points[point, 1] >= bottoms[crossed]
+        over = cells.y[point] >= bottoms[crossed]
         pieces.append(point[over] * len(row_starts) + crossed[over])
     keys = np.sort(odd_times(np.concatenate(pieces)))
     return keys // len(row_starts), keys % len(row_starts)

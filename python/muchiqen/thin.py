@@ -17,6 +17,7 @@ from shapely.geometry import Polygon
 from . import build as own_build
 from . import coverage as cover
 from . import grid as grids
+from .answer import Made, read_answer
 from .command import (
     MOST_BOUND,
     MOST_BYTES,
@@ -27,7 +28,7 @@ from .command import (
     checked_weights,
 )
 from .errors import ArcsMeet, BadGrid, NotACoverage, NotConfirmed, NotRead, PointOnArc
-from .frames import Shapes, frame_of, parts_of, polygon_object, polygons_of, rows_of
+from .frames import Shapes, frame_of, polygon_object, polygons_of, rows_of
 from .grid import Coordinates, Grid, Places
 from .meetings import why_held
 from .notes import after_notes, fault_notes, town_notes, with_causes
@@ -406,17 +407,16 @@ def make_topology(
     if not np.array_equal(named.rings, snapped.layout.rings):
         raise NotConfirmed("the topology has its rings in other parts")
     objects: dict[str, Any] = {"rows": {"type": "GeometryCollection", "geometries": geometries}}
+    points = np.empty((0, 2), dtype=np.int64) if towns is None else towns
     if towns is not None:
         objects["towns"] = {"type": "MultiPoint", "coordinates": PositionList(towns)}
     transform = {"scale": list(grid.scale), "translate": list(grid.translate)}
     members = {"type": "Topology", "transform": transform, "objects": objects}
-    return Topology(topology.places, topology.starts, members).naming(named), built_by
+    whole = Topology(topology.places, topology.starts, members)
+    return whole.knowing(named, points), built_by
 
 
-_Made = tuple[Topology, Named, list[dict[str, Any]]]
-
-
-def _by_command(snapped: cover.Snapped, command: Command) -> _Made | None:
+def _by_command(snapped: cover.Snapped, command: Command) -> Made | None:
     """Towns do not go along: points have no part in what ``build`` makes of rings."""
     fits = len(snapped.places) + len(snapped.starts) <= MOST_RING_POSITIONS
     fits = fits and snapped.layout.row_count < MOST_POSITIONS
@@ -425,13 +425,10 @@ def _by_command(snapped: cover.Snapped, command: Command) -> _Made | None:
     text = cover.geojson(snapped)
     if len(text) > MOST_BYTES:
         return None
-    topology = read(command.build(text))
-    geometries = rows_of(topology.objects["features"])
-    shapes = (parts_of(geometry) for geometry in geometries)
-    return topology, Named.of([parts for parts in shapes if parts is not None]), geometries
+    return read_answer(command.build(text), snapped.layout)
 
 
-def _by_package(snapped: cover.Snapped) -> _Made:
+def _by_package(snapped: cover.Snapped) -> Made:
     built = own_build.build(snapped.places, snapped.starts)
     layout = snapped.layout
     there = np.append(np.diff(layout.parts) > 0, True)

@@ -3,7 +3,7 @@
 import json
 import re
 import warnings
-from collections.abc import Iterator
+from collections.abc import Iterator, Sequence
 from dataclasses import dataclass, field
 from functools import cached_property
 from itertools import chain, groupby
@@ -68,11 +68,34 @@ class Named:
         return np.repeat(np.arange(len(self.starts) - 1), np.diff(self.starts))
 
 
-class PositionList(list[list[int]]):
-    """A list of positions as JSON has it, that knows them as an array too."""
+class LongList(Sequence[Any]):
+    """A list of a text that is kept as its JSON text, and read only where it is looked into."""
+
+    def __init__(self, text: bytes) -> None:
+        self.text = text
+
+    @cached_property
+    def _entries(self) -> list[Any]:
+        entries: list[Any] = json.loads(self.text)
+        return entries
+
+    def __getitem__(self, at: Any) -> Any:
+        return self._entries[at]
+
+    def __len__(self) -> int:
+        return len(self._entries)
+
+    def __eq__(self, other: object) -> bool:
+        return isinstance(other, Sequence) and self._entries == list(other)
+
+    __hash__ = None  # type: ignore[assignment]
+
+
+class PositionList(LongList):
+    """A list of positions that is kept as an array."""
 
     def __init__(self, places: Places) -> None:
-        super().__init__(places.tolist())
+        super().__init__(positions_text(places))
         self.places = places
 
 
@@ -140,11 +163,12 @@ class Topology:
 
     def with_arcs(self, places: Places, starts: Integers) -> "Topology":
         """Give the same topology with other arcs."""
-        return Topology(places, starts, self.members, self.place_of_arcs).naming(self.named)
+        made = Topology(places, starts, self.members, self.place_of_arcs)
+        return made.knowing(self.named, self.points())
 
-    def naming(self, named: Named) -> "Topology":
-        """Give this topology, told what its polygons name, which then is not looked up."""
-        self.__dict__["named"] = named
+    def knowing(self, named: Named, points: Places) -> "Topology":
+        """Give this topology, told what its polygons name and its points: they are not looked up."""
+        self.__dict__.update(named=named, _points=points)
         return self
 
     def without_repeats(self) -> "Topology":
@@ -170,24 +194,25 @@ class Topology:
 
 
 def _compact(value: object) -> bytes:
-    return json.dumps(value, ensure_ascii=False, separators=(",", ":")).encode()
+    return json.dumps(value, ensure_ascii=False, separators=(",", ":"), default=list).encode()
 
 
 def _member(key: str, value: Any) -> bytes:
     if key != "objects":
         return _compact(value)
-    objects = (_compact(name) + b":" + _object(shape) for name, shape in value.items())
-    return b"{" + b",".join(objects) + b"}"
+    return _braced({name: _object(shape) for name, shape in value.items()})
 
 
 def _object(shape: Any) -> bytes:
-    """Give the text of an object; a long list of points is not spelled one by one."""
-    if list(shape) != ["type", "coordinates"] or shape["type"] != "MultiPoint":
+    """Give the text of an object; a long list has its own."""
+    if not any(isinstance(value, LongList) for value in shape.values()):
         return _compact(shape)
-    rows = shape["coordinates"]
-    if not isinstance(rows, PositionList):
-        return _compact(shape)
-    return b'{"type":"MultiPoint","coordinates":' + positions_text(rows.places) + b"}"
+    values = shape.items()
+    return _braced({k: v.text if isinstance(v, LongList) else _compact(v) for k, v in values})
+
+
+def _braced(members: dict[str, bytes]) -> bytes:
+    return b"{" + b",".join(_compact(key) + b":" + text for key, text in members.items()) + b"}"
 
 
 def _places_of(rows: list[list[int]]) -> Places:
@@ -231,6 +256,25 @@ def columns_at(rows: Any, at: Any) -> Any:
 def closed(starts: Integers) -> Integers:
     """Give the numbers of the positions of rings, each with its first one again at its end."""
     return np.insert(np.arange(starts[-1]), starts[1:], starts[:-1])
+
+
+def alike(keys: Integers) -> Integers:
+    """Give for each key where one that equals it stands, for equal keys the same place.
+
+    Keys go to a table by their hash; those whose place in it another took go again, by another.
+    """
+    bits = max(4, 2 + len(keys).bit_length())
+    table = np.empty(1 << bits, dtype=np.int64)
+    found = np.empty(len(keys), dtype=np.int64)
+    left, factor = np.arange(len(keys)), _FACTOR
+    while len(left):
+        rest = keys[left]
+        slots = (rest.astype(np.uint64) * np.uint64(factor) >> np.uint64(64 - bits)).astype(np.int64)
+        table[slots] = left
+        found[left] = table[slots]
+        left = left[keys[found[left]] != rest]
+        factor = factor * _FACTOR % 2**64
+    return found
 
 
 def within(counts: Integers) -> Integers:
@@ -336,8 +380,12 @@ def _lone_twice(places: Places, starts: Integers) -> tuple[Places, Integers]:
 
 
 _CHUNK = 20_000
-_NUMBERS = re.compile(r"[-+\[\]\d\s,.eE]+")
-_OPEN, _CLOSE = ord("["), ord("]")
+_FACTOR = 0x9E3779B97F4A7C15
+"""An odd number that scatters products with it."""
+
+_NUMBERS = re.compile(r"[-+\[\]0-9 \t\r\n,.eE]+")
+_OPEN = ord("[")
+_NO_BRACKETS = bytes(set(range(256)) - set(b"[]"))
 _LOWEST_FOUR, _OTHER_FOUR = _fours(b"0"), _fours(b"")
 _BLANKS = bytes.maketrans(b"[],\t\r\n", b"      ")
 
@@ -452,34 +500,30 @@ def read_arcs(text: bytes, at: int = 0) -> tuple[Places, Integers]:
 
     Raises NotATopology where positions are no pairs of whole numbers; ``at`` is the text's place.
     """
-    values = np.frombuffer(text, dtype=np.uint8)
     if not text.startswith(b"[") or not text.endswith(b"]"):
         raise NotATopology("wrong type", at)
-    opens = np.flatnonzero(values == _OPEN)
-    closes = np.flatnonzero(values == _CLOSE)
-    if len(opens) == 1:
+    opens = np.frombuffer(text.translate(None, _NO_BRACKETS), dtype=np.uint8) == _OPEN
+    count = np.count_nonzero(opens)
+    if count == 1:
         return np.empty((0, 2), dtype=np.int64), np.zeros(1, dtype=np.int64)
-    numbers = _whole_numbers(text, at)
-    firsts = _arc_firsts(opens, closes)
-    positions = len(opens) - 1 - len(firsts)
-    if len(opens) != len(closes) or len(numbers) != 2 * positions:
+    numbers = whole_numbers(text, at)
+    depth = np.cumsum(np.where(opens, 1, -1))
+    firsts = np.flatnonzero(opens & (depth == 2))
+    positions = count - 1 - len(firsts)
+    if 2 * count != len(opens) or len(numbers) != 2 * positions:
         raise NotATopology("positions are no pairs", at)
-    before = np.searchsorted(opens, firsts)
-    starts = before - np.arange(len(firsts)) - 1
+    starts = np.cumsum(opens)[firsts] - np.arange(len(firsts)) - 2
     return numbers.reshape(-1, 2), np.append(starts, positions).astype(np.int64)
 
 
-def _whole_numbers(text: bytes, at: int) -> Integers:
+def whole_numbers(text: bytes, at: int = 0) -> Integers:
+    """Read the whole numbers of a JSON list of lists.
+
+    Raises NotATopology where there is anything else; ``at`` is the text's place.
+    """
     with warnings.catch_warnings():
         warnings.simplefilter("error")
         try:
             return np.fromstring(text.translate(_BLANKS), dtype=np.int64, sep=" ")
         except (ValueError, DeprecationWarning) as error:
             raise NotATopology("not whole", at) from error
-
-
-def _arc_firsts(opens: Integers, closes: Integers) -> Integers:
-    """Give the places of the brackets that open an arc: those at depth 2."""
-    depth = 1 + np.arange(len(opens)) - np.searchsorted(closes, opens)
-    firsts: Integers = opens[depth == 2]
-    return firsts
