@@ -1,6 +1,7 @@
 """Gaps of a coverage: faces of its outer borders that no row holds."""
 
-from collections.abc import Iterable
+from collections.abc import Iterable, Iterator
+from dataclasses import dataclass
 from functools import cmp_to_key
 
 import numpy as np
@@ -8,7 +9,7 @@ import pandas as pd
 from shapely.geometry import LineString, Polygon
 from shapely.ops import polygonize
 
-from .grid import Coordinates, Places
+from .grid import Coordinates
 from .shapes import Flags
 from .sides import Sides, held_at_all
 from .topology import Integers, Topology, starts_of, within
@@ -32,7 +33,7 @@ def narrow_gaps(
     ``arranged`` (arcs have only ends of both in common) faces that are too wide or that a row holds
     are left aside before shapely makes them; the gaps are the same.
     """
-    plain = topology.without_repeats()
+    plain = topology.without_repeats() if sides is None else sides.topology
     arcs = outer_arcs(plain)
     arcs = arcs[np.diff(plain.starts)[arcs] > 1]
     if not len(arcs):
@@ -64,6 +65,43 @@ def _gaps_of(topology: Topology, arcs: Integers, width: float) -> list[Polygon]:
 def _centres(faces: Iterable[Polygon]) -> Coordinates:
     points = [face.representative_point() for face in faces]
     return np.array([(point.x, point.y) for point in points]).reshape(-1, 2)
+
+
+@dataclass(frozen=True)
+class _Boxes:
+    """Boxes by columns."""
+
+    left: Integers
+    low: Integers
+    right: Integers
+    high: Integers
+
+    def round_some(self, starts: Integers) -> "_Boxes":
+        """Give the boxes round boxes ``starts[i]`` to ``starts[i + 1]``, one or more."""
+        least = (np.minimum.reduceat(values, starts[:-1]) for values in (self.left, self.low))
+        most = (np.maximum.reduceat(values, starts[:-1]) for values in (self.right, self.high))
+        return _Boxes(*least, *most)
+
+    def at(self, which: Integers) -> "_Boxes":
+        """Give some of the boxes."""
+        return _Boxes(self.left[which], self.low[which], self.right[which], self.high[which])
+
+    def each(self) -> Iterator[tuple[int, ...]]:
+        """Give each box as its least x and y and its greatest."""
+        columns = self.left.tolist(), self.low.tolist(), self.right.tolist(), self.high.tolist()
+        return zip(*columns, strict=True)
+
+    def hold(self, box: tuple[int, ...]) -> Flags:
+        """Tell which of the boxes hold this one."""
+        left, low, right, high = box
+        holds = (self.left <= left) & (self.low <= low)
+        return np.asarray(holds & (right <= self.right) & (high <= self.high))
+
+    def are_in(self, box: tuple[int, ...]) -> Flags:
+        """Tell which of the boxes are in this one."""
+        left, low, right, high = box
+        inside = (left <= self.left) & (low <= self.low)
+        return np.asarray(inside & (self.right <= right) & (self.high <= high))
 
 
 class _Borders:
@@ -139,25 +177,27 @@ class _Borders:
 
         What is in the box of a face is taken to be in it, but for what is beyond its own arcs.
         """
+        if not len(self.arcs):
+            return self.arcs, set()
         numbers, cycle = np.unique(self.cycle, return_inverse=True)
-        area, length = self._sums(cycle, len(numbers))
-        low, high = self._boxes(cycle, len(numbers))
+        area, length, box_of = self._measures(cycle)
         held = np.zeros(len(numbers), dtype=bool)
         held[cycle[self._is_held()]] = True
-        for least, most in zip(*self._mixed_boxes(), strict=True):
-            held &= ~((low <= least) & (most <= high)).all(axis=1)
+        for box in self._mixed_boxes():
+            held &= ~box_of.hold(box)
         islands = np.flatnonzero(area < 0)
+        boxes_of_islands = box_of.at(islands)
+        faces = np.flatnonzero((area > 0) & ~held)
         chosen, boxes = np.zeros(len(numbers), dtype=bool), set()
-        for face in np.flatnonzero((area > 0) & ~held).tolist():
-            within_it = (low[islands] >= low[face]).all(axis=1)
-            inner = islands[within_it & (high[islands] <= high[face]).all(axis=1)]
-            beyond = cycle[np.flatnonzero(cycle == face) ^ 1]
-            inner = inner[~np.isin(inner, beyond)]
+        for face, box in zip(faces.tolist(), box_of.at(faces).each(), strict=True):
+            inner = islands[boxes_of_islands.are_in(box)]
+            if len(inner):
+                inner = inner[~np.isin(inner, cycle[np.flatnonzero(cycle == face) ^ 1])]
             least, most = area[face] + area[inner].sum(), length[face] + length[inner].sum()
             if 2 * least < width * most * _MARGIN:
                 chosen[[face, *inner]] = True
-                box = self._topology.grid.unsnap(np.array([low[face], high[face]]))
-                boxes.add(tuple(box.ravel().tolist()))
+                corners = self._topology.grid.unsnap(np.array(box).reshape(2, 2))
+                boxes.add(tuple(corners.ravel().tolist()))
         return np.unique(self.arcs[np.flatnonzero(chosen[cycle]) // 2]), boxes
 
     def _is_held(self) -> Flags:
@@ -167,7 +207,7 @@ class _Borders:
         left, right = ((claims == 1) & ~crowded for claims in self._sides.plain_claims)
         return np.column_stack((left[self.arcs], right[self.arcs])).ravel()
 
-    def _mixed_boxes(self) -> tuple[Places, Places]:
+    def _mixed_boxes(self) -> Iterator[tuple[int, ...]]:
         """Give the boxes of the other arcs that may have a held side and one that is not held.
 
         Inside a face with a held way, and with none of these, everything is held. An arc that is
@@ -180,16 +220,17 @@ class _Borders:
         plain[sides.crowded] = False
         plain[self.arcs] = True
         arcs = sides.named_arcs[~plain[sides.named_arcs]]
-        return self._arc_boxes(arcs)
+        return self._arc_boxes(arcs).each() if len(arcs) else iter(())
 
-    def _sums(self, cycle: Integers, count: int) -> tuple[Coordinates, Coordinates]:
-        """Give the area and the length of each cycle, in the units of the map."""
+    def _measures(self, cycle: Integers) -> tuple[Coordinates, Coordinates, _Boxes]:
+        """Give the area and the length of each cycle, in the units of the map, and its box."""
         arcs, (across, up) = self.arcs, self._topology.grid.scale
+        order, starts = np.argsort(cycle, kind="stable"), starts_of(np.bincount(cycle))
         twice = self._sides.arc_areas[arcs]
-        areas = np.zeros(count, dtype=np.int64)
-        np.add.at(areas, cycle, np.column_stack((twice, -twice)).ravel())
-        lengths = np.bincount(cycle, np.repeat(self._lengths(arcs), 2), count)
-        return areas * (across * up / 2), lengths
+        areas = np.add.reduceat(np.column_stack((twice, -twice)).ravel()[order], starts[:-1])
+        lengths = np.bincount(cycle, np.repeat(self._lengths(arcs), 2))
+        boxes = self._arc_boxes(arcs).at(order // 2).round_some(starts)
+        return areas * (across * up / 2), lengths, boxes
 
     def _lengths(self, arcs: Integers) -> Coordinates:
         at, starts = self._positions(arcs)
@@ -203,21 +244,10 @@ class _Borders:
         at = np.repeat(self._topology.starts[arcs], counts) + within(counts)
         return at, starts_of(counts)
 
-    def _boxes(self, cycle: Integers, count: int) -> tuple[Places, Places]:
-        low = np.full((count, 2), np.iinfo(np.int64).max)
-        high = np.full((count, 2), np.iinfo(np.int64).min)
-        arc_low, arc_high = self._arc_boxes(self.arcs)
-        np.minimum.at(low, cycle, np.repeat(arc_low, 2, axis=0))
-        np.maximum.at(high, cycle, np.repeat(arc_high, 2, axis=0))
-        return low, high
-
-    def _arc_boxes(self, arcs: Integers) -> tuple[Places, Places]:
-        if not len(arcs):
-            return np.empty((0, 2), dtype=np.int64), np.empty((0, 2), dtype=np.int64)
+    def _arc_boxes(self, arcs: Integers) -> _Boxes:
         at, starts = self._positions(arcs)
-        places = self._topology.places[at]
-        low = np.minimum.reduceat(places, starts[:-1])
-        return low, np.maximum.reduceat(places, starts[:-1])
+        x, y = self._topology.places[:, 0][at], self._topology.places[:, 1][at]
+        return _Boxes(x, y, x, y).round_some(starts)
 
 
 __all__ = ["narrow_gaps", "outer_arcs"]

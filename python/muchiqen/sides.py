@@ -14,7 +14,7 @@ import pandas as pd
 
 from .grid import Places
 from .shapes import Flags
-from .topology import Integers, Topology, alike, starts_of, within
+from .topology import Integers, Topology, starts_of, within
 
 _PAIRS = 2_000_000
 _BLOCK = 16
@@ -301,20 +301,21 @@ def thinned_boxes(before: Topology, after: Topology) -> tuple[Ranges, Ranges] | 
         return None
     count = len(before.places)
     both = np.concatenate((before.places, after.places))
-    group = alike((both[:, 0] << 31) + both[:, 1])
-    inner = np.ones(count, dtype=bool)
-    inner[before.starts[:-1]], inner[before.starts[1:] - 1] = False, False
-    inner = np.flatnonzero(inner)
-    place = np.full(len(both), -1, dtype=np.int64)
-    place[group[inner]] = inner
-    if (place[group[inner]] != inner).any():
+    numbers, found = pd.factorize((both[:, 0] << 31) + both[:, 1])
+    ends = np.zeros(count, dtype=bool)
+    ends[before.starts[:-1]], ends[before.starts[1:] - 1] = True, True
+    inner = np.flatnonzero(~ends)
+    place = np.full(len(found), -1, dtype=np.int64)
+    place[numbers[inner]] = inner
+    if (place[numbers[inner]] != inner).any():
         return None
-    at = place[group[count:]]
+    at = place[numbers[count:]]
     at[after.starts[:-1]], at[after.starts[1:] - 1] = before.starts[:-1], before.starts[1:] - 1
     if (at < 0).any() or (np.diff(at) <= 0).any() or (both[at] != after.places).any():
         return None
-    runs = np.flatnonzero(np.diff(at) > 1)
-    runs = runs[~np.isin(runs, after.starts[1:] - 1)]
+    dropped = np.diff(at) > 1
+    dropped[after.starts[1:-1] - 1] = False
+    runs = np.flatnonzero(dropped)
     x, y = _columns(before.places)
     return _range_of(x, at, runs), _range_of(y, at, runs)
 

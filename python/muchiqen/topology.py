@@ -258,25 +258,6 @@ def closed(starts: Integers) -> Integers:
     return np.insert(np.arange(starts[-1]), starts[1:], starts[:-1])
 
 
-def alike(keys: Integers) -> Integers:
-    """Give for each key where one that equals it stands, for equal keys the same place.
-
-    Keys go to a table by their hash; those whose place in it another took go again, by another.
-    """
-    bits = max(4, 2 + len(keys).bit_length())
-    table = np.empty(1 << bits, dtype=np.int64)
-    found = np.empty(len(keys), dtype=np.int64)
-    left, factor = np.arange(len(keys)), _FACTOR
-    while len(left):
-        rest = keys[left]
-        slots = (rest.astype(np.uint64) * np.uint64(factor) >> np.uint64(64 - bits)).astype(np.int64)
-        table[slots] = left
-        found[left] = table[slots]
-        left = left[keys[found[left]] != rest]
-        factor = factor * _FACTOR % 2**64
-    return found
-
-
 def within(counts: Integers) -> Integers:
     """Give 0, 1, .. up to each count, one after the other."""
     ends = np.cumsum(counts)
@@ -292,7 +273,8 @@ def arcs_text(places: Places, starts: Integers, *, coded: bool = False) -> bytes
     places, starts = _lone_twice(places, starts)
     rows = places
     if coded and len(places):
-        rows = np.diff(places, axis=0, prepend=places[:1] * 0)
+        rows = np.array(places, order="F")
+        rows[1:] -= places[:-1]
         firsts = starts[:-1][starts[:-1] < starts[1:]]
         rows[firsts] = places[firsts]
     return lists_text(rows, starts)
@@ -305,13 +287,9 @@ def lists_text(rows: Places, starts: Integers) -> bytes:
         return _with_empty_lists(rows, starts)
     if not len(full):
         return b"[]"
-    pieces = []
-    for low in range(0, len(full), _CHUNK):
-        ends = starts[low : low + _CHUNK + 1]
-        last = np.zeros(ends[-1] - ends[0], dtype=bool)
-        last[ends[1:] - ends[0] - 1] = True
-        pieces.append(_spelled(rows[ends[0] : ends[-1]], last))
-    return b"[[" + b",[".join(pieces) + b"]"
+    last = np.zeros(len(rows), dtype=bool)
+    last[starts[1:] - 1] = True
+    return b"[[" + _spelled(rows, last)[:-2] + b"]"
 
 
 def _with_empty_lists(rows: Places, starts: Integers) -> bytes:
@@ -326,19 +304,18 @@ def positions_text(rows: Places) -> bytes:
 
 
 def _spelled(rows: Places, last: npt.NDArray[np.bool_]) -> bytes:
-    """Spell positions, each with a comma behind it; where ``last``, the list ends there.
+    """Spell positions, each with a comma behind it; where ``last``, with ``],[``, a list's end."""
+    ends = range(0, len(rows), _CHUNK)
+    return b"".join([_spelled_few(rows[a : a + _CHUNK], last[a : a + _CHUNK]) for a in ends])
 
-    All but the last list's end are followed by ``,[``. Numbers have at most twelve digits.
-    """
-    if not len(rows):
-        return b""
+
+def _spelled_few(rows: Places, last: npt.NDArray[np.bool_]) -> bytes:
+    """Spell so many positions as the processor has at hand. Numbers have up to twelve digits."""
     words = []
     for axis, mark in ((0, b"["), (1, b",")):
         column = rows[:, axis]
         words += [np.where(column < 0, _word(mark + b"-"), _word(mark)), *_digits(np.abs(column))]
     ends = np.where(last, _word(b"]],["), _word(b"],"))
-    if last[-1]:
-        ends[-1] = _word(b"]]")
     spelled = np.empty((len(rows), len(words) + 1), dtype=np.uint32)
     for at, word in enumerate((*words, ends)):
         spelled[:, at] = word
@@ -379,10 +356,7 @@ def _lone_twice(places: Places, starts: Integers) -> tuple[Places, Integers]:
     return np.repeat(places, times, axis=0), starts_of(np.where(counts == 1, 2, counts))
 
 
-_CHUNK = 20_000
-_FACTOR = 0x9E3779B97F4A7C15
-"""An odd number that scatters products with it."""
-
+_CHUNK = 10_000
 _NUMBERS = re.compile(r"[-+\[\]0-9 \t\r\n,.eE]+")
 _OPEN = ord("[")
 _NO_BRACKETS = bytes(set(range(256)) - set(b"[]"))
