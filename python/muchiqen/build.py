@@ -13,7 +13,7 @@ import pandas as pd
 from .coverage import Snapped
 from .errors import NotConfirmed
 from .grid import EDGE, Places
-from .topology import Integers, References, Topology, starts_of, within
+from .topology import Integers, References, Topology, ranges, starts_of
 
 Flags = npt.NDArray[np.bool_]
 
@@ -149,7 +149,7 @@ class _Pieces:
         references = np.where(backwards, -kinds - 1, kinds).astype(np.int64)
         length, ring = self.length[fresh], self.ring[fresh]
         low, size = rings.starts[ring], rings.sizes[ring]
-        at = np.repeat(self.first[fresh] - low, length) + within(length)
+        at = ranges(self.first[fresh] - low, length)
         at = np.repeat(low, length) + at % np.repeat(size, length)
         ring_starts = starts_of(np.bincount(self.ring, minlength=len(rings.sizes)))
         return Built(places[at], starts_of(length), references, ring_starts)
@@ -190,9 +190,10 @@ def ring_positions(
     arc = np.where(back, -references - 1, references)
     first, last = topology.starts[arc], topology.starts[arc + 1] - 1
     counts = np.maximum(last - first, 0)
-    step = np.repeat(np.where(back, -1, 1), counts)
-    found = np.repeat(np.where(back, last, first), counts) + step * within(counts)
-    return found, starts_of(counts)[ring_starts]
+    starts, step = starts_of(counts), np.where(back, -1, 1)
+    before = np.where(back, last, first) - step * starts[:-1]
+    found = np.repeat(before, counts) + np.repeat(step, counts) * np.arange(starts[-1])
+    return found, starts[ring_starts]
 
 
 def _are_turned(found: Integers, wanted: Integers, starts: Integers) -> Flags:
@@ -205,7 +206,8 @@ def _are_turned(found: Integers, wanted: Integers, starts: Integers) -> Flags:
     hits = np.flatnonzero(wanted == found[starts[:-1]][ring])
     turn = np.full(len(sizes), -1, dtype=np.int64)
     turn[ring[hits]] = hits - starts[:-1][ring[hits]]
-    at = starts[:-1][ring] + (within(sizes) + turn[ring]) % sizes[ring]
+    at = np.arange(len(ring)) + turn[ring]
+    at -= np.where(at >= starts[1:][ring], sizes[ring], 0)
     differs = np.bincount(ring[found != wanted[at]], minlength=len(sizes)) > 0
     return np.asarray((turn >= 0) & ~differs)
 

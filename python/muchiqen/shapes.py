@@ -127,22 +127,24 @@ class _Scan:
     def __init__(self, text: bytes) -> None:
         self._text = text
         self._firsts: list[int] = []
-        self.parts: list[int] = []
         self.rings: list[int] = []
         self.sizes: list[int] = []
-        self.multi: list[bool] = []
-        self.high: list[bool] = []
-        at = 9
+        heads = self._heads()
+        self.multi = heads[:, 0] & 0xFF == _MULTI
+        self.high = heads[:, 0] > 0xFF
+        self.parts = np.where(self.multi, heads[:, 1], heads[:, 1] > 0)
+
+    def _heads(self) -> Integers:
+        """Go through the text; give the kind of each geometry, and how many members it has."""
+        text, found, at = self._text, [], 9
         for _ in range(_ONE(text, 5)[0]):
-            code, count = _TWO(text, at + 1)
-            multi = code & 0xFF == _MULTI
-            self.multi.append(multi)
-            self.high.append(code > 0xFF)
-            self.parts.append(count if multi else int(count > 0))
-            if multi:
-                at = self._take_parts(at + 9, count)
+            head = _TWO(text, at + 1)
+            found.append(head)
+            if head[0] & 0xFF == _MULTI:
+                at = self._take_parts(at + 9, head[1])
             else:
-                at = self._take_parts(at, int(count > 0)) if count else at + 9
+                at = self._take_parts(at, 1) if head[1] else at + 9
+        return np.array(found, dtype=np.int64)
 
     def _take_parts(self, at: int, count: int) -> int:
         text, firsts, sizes, rings = self._text, self._firsts, self.sizes, self.rings
@@ -161,7 +163,7 @@ class _Scan:
     def coordinates(self) -> Coordinates:
         """Give all positions of all rings."""
         text, ends = self._text, zip(self._firsts, self.sizes, strict=True)
-        if any(self.high):
+        if self.high.any():
             return self._without_heights()
         rows = b"".join([text[at : at + 16 * size] for at, size in ends])
         return np.frombuffer(rows, dtype="<f8").reshape(-1, 2)

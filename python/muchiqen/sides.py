@@ -14,7 +14,7 @@ import pandas as pd
 
 from .grid import Places
 from .shapes import Flags
-from .topology import Integers, Topology, starts_of, within
+from .topology import Integers, Topology, ranges, starts_of, within
 
 _PAIRS = 2_000_000
 _BLOCK = 16
@@ -200,14 +200,14 @@ class Blocks:
             high = np.maximum.reduceat(values, cuts)[::2]
             return np.minimum(low, values[self.last]), np.maximum(high, values[self.last])
         counts = self.last - self.first + 1
-        at = np.repeat(self.first, counts) + within(counts)
+        at = ranges(self.first, counts)
         firsts = starts_of(counts)[:-1]
         return np.minimum.reduceat(values[at], firsts), np.maximum.reduceat(values[at], firsts)
 
     def edges(self, block: Integers, point: Integers) -> tuple[Integers, Integers, Integers]:
         """Give, for pairs of a block and a point, each with each edge of the block."""
         counts = (self.last - self.first)[block]
-        edge = np.repeat(self.first[block], counts) + within(counts)
+        edge = ranges(self.first[block], counts)
         return np.repeat(block, counts), edge, np.repeat(point, counts)
 
 
@@ -356,7 +356,7 @@ class Cells:
         bottom, top = (self._strip(y[worth]) for y in up)
         counts = top - bottom + 1
         box = np.repeat(np.arange(len(worth)), counts)
-        line = (np.repeat(bottom, counts) + within(counts)) * self._columns
+        line = ranges(bottom, counts) * self._columns
         first = self._firsts[line + left[box]]
         counts = self._firsts[line + right[box] + 1] - first
         full = np.flatnonzero(counts)
@@ -364,7 +364,7 @@ class Cells:
         for start, end in _chunks(counts):
             some = slice(start, end)
             which = np.repeat(box[some], counts[some])
-            point = self._order[np.repeat(first[some], counts[some]) + within(counts[some])]
+            point = self._order[ranges(first[some], counts[some])]
             x, y = self.x[point], self.y[point]
             inside = (across[0][which] <= x) & (x <= across[1][which])
             inside &= (up[0][which] <= y) & (y <= up[1][which])
@@ -406,7 +406,7 @@ def _pairs(
     for start, end in _chunks(counts[worth]):
         some = worth[start:end]
         block = np.repeat(some, counts[some])
-        yield block, order[np.repeat(first[some], counts[some]) + within(counts[some])]
+        yield block, order[ranges(first[some], counts[some])]
 
 
 def held(
@@ -441,7 +441,7 @@ def held_by(
     for block, point, _ in crossings(blocks, (cells.x, cells.y), pairs):
         line = blocks.line[block]
         counts = uses[line]
-        crossed = row[np.repeat(firsts[line], counts) + within(counts)]
+        crossed = row[ranges(firsts[line], counts)]
         point = np.repeat(point, counts)
         over = cells.y[point] >= bottoms[crossed]
         pieces.append(point[over] * len(row_starts) + crossed[over])

@@ -34,7 +34,7 @@ from .meetings import why_held
 from .notes import after_notes, fault_notes, town_notes, with_causes
 from .report import Report
 from .shapes import Flags, Layout, Objects
-from .topology import Integers, Named, PositionList, Topology, read, read_thinned
+from .topology import Integers, Named, PositionList, Topology, read, read_thinned, starts_of
 from .towns import towns_of
 
 Program = str | os.PathLike[str] | Command | None
@@ -246,14 +246,12 @@ class Work:
             at = range(len(geometries)) if rows is None else rows.tolist()
             return Shapes(topology).all_of([geometries[row] for row in at])
         at = np.arange(self.layout.row_count) if rows is None else rows
-        if rows is None:
-            made = np.empty(len(at), dtype=object)
-            multi = self.layout.multi[self.on_grid]
-            made[self.on_grid] = polygons_of(topology, topology.named, multi)
-        else:
-            geometries = topology.objects["rows"]["geometries"]
-            made = Shapes(topology).all_of([geometries[row] for row in at.tolist()])
-        for row in np.flatnonzero(~self.on_grid[at]).tolist():
+        there = self.on_grid[at]
+        number = starts_of(self.on_grid)[at[there]]
+        named = topology.named if rows is None else topology.named.some(number)
+        made = np.empty(len(at), dtype=object)
+        made[there] = polygons_of(topology, named, self.layout.multi[at[there]])
+        for row in np.flatnonzero(~there).tolist():
             made[row] = Polygon()
         for row in np.flatnonzero(self.rings.missing[at]).tolist():
             made[row] = self.frame.geometry.iloc[at[row]]

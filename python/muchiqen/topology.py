@@ -47,6 +47,16 @@ class Named:
         """The number of polygons."""
         return len(self.parts) - 1
 
+    def some(self, polygons: Integers) -> "Named":
+        """Give what some of the polygons name."""
+        part_counts = np.diff(self.parts)[polygons]
+        parts = ranges(self.parts[polygons], part_counts)
+        ring_counts = np.diff(self.rings)[parts]
+        rings = ranges(self.rings[parts], ring_counts)
+        counts = np.diff(self.starts)[rings]
+        references = self.references[ranges(self.starts[rings], counts)]
+        return Named(references, *map(starts_of, (counts, ring_counts, part_counts)))
+
     @property
     def arcs(self) -> Integers:
         """The arcs of the references."""
@@ -167,7 +177,7 @@ class Topology:
         return made.knowing(self.named, self.points())
 
     def knowing(self, named: Named, points: Places) -> "Topology":
-        """Give this topology, told what its polygons name and its points: they are not looked up."""
+        """Give this topology, told what its polygons name and its points, not to look them up."""
         self.__dict__.update(named=named, _points=points)
         return self
 
@@ -260,9 +270,14 @@ def closed(starts: Integers) -> Integers:
 
 def within(counts: Integers) -> Integers:
     """Give 0, 1, .. up to each count, one after the other."""
+    return ranges(0, counts)
+
+
+def ranges(firsts: Any, counts: Integers) -> Integers:
+    """Give each first number and those that follow it, as many as its count says."""
     ends = np.cumsum(counts)
     total = int(ends[-1]) if len(ends) else 0
-    return np.arange(total) - np.repeat(ends - counts, counts)
+    return np.arange(total) + np.repeat(firsts - ends + counts, counts)
 
 
 def arcs_text(places: Places, starts: Integers, *, coded: bool = False) -> bytes:
