@@ -13,7 +13,7 @@ import pandas as pd
 from .coverage import Snapped
 from .errors import NotConfirmed
 from .grid import EDGE, Places
-from .topology import Integers, References, Topology, ranges, starts_of
+from .topology import Integers, References, Topology, counted_from, starts_of
 
 Flags = npt.NDArray[np.bool_]
 
@@ -149,7 +149,7 @@ class _Pieces:
         references = np.where(backwards, -kinds - 1, kinds).astype(np.int64)
         length, ring = self.length[fresh], self.ring[fresh]
         low, size = rings.starts[ring], rings.sizes[ring]
-        at = ranges(self.first[fresh] - low, length)
+        at = counted_from(self.first[fresh] - low, length)
         at = np.repeat(low, length) + at % np.repeat(size, length)
         ring_starts = starts_of(np.bincount(self.ring, minlength=len(rings.sizes)))
         return Built(places[at], starts_of(length), references, ring_starts)
@@ -193,7 +193,7 @@ def ring_positions(
     starts, step = starts_of(counts), np.where(back, -1, 1)
     before = np.where(back, last, first) - step * starts[:-1]
     found = np.repeat(before, counts) + np.repeat(step, counts) * np.arange(starts[-1])
-    return found, starts[ring_starts]
+    return np.asarray(found, dtype=np.int64), starts[ring_starts]
 
 
 def _are_turned(found: Integers, wanted: Integers, starts: Integers) -> Flags:

@@ -12,7 +12,7 @@ from shapely.ops import polygonize
 from .grid import Coordinates
 from .shapes import Flags
 from .sides import Sides, held_at_all
-from .topology import Integers, Topology, ranges, starts_of
+from .topology import Integers, Topology, counted_from, starts_of
 
 _MARGIN = 1 + 1e-9
 """Sums of floats are taken to be right within this factor, where they decide what is looked at."""
@@ -241,7 +241,7 @@ class _Borders:
 
     def _positions(self, arcs: Integers) -> tuple[Integers, Integers]:
         counts = np.diff(self._topology.starts)[arcs]
-        at = ranges(self._topology.starts[arcs], counts)
+        at = counted_from(self._topology.starts[arcs], counts)
         return at, starts_of(counts)
 
     def _arc_boxes(self, arcs: Integers) -> _Boxes:

@@ -27,7 +27,7 @@ from .sides import (
     rows_named,
     thinned_boxes,
 )
-from .topology import Integers, Topology, ranges, starts_of
+from .topology import Integers, Topology, counted_from, starts_of
 
 if TYPE_CHECKING:
     from .thin import Work
@@ -217,7 +217,7 @@ def _held_as_they_came(work: "Work", towns: Integers, rows: Integers) -> tuple[I
     firsts = work.rings.layout.ring_starts
     of_frame = np.flatnonzero(work.on_grid)[rows]
     counts = np.diff(firsts)[of_frame]
-    rings = ranges(firsts[of_frame], counts)
+    rings = counted_from(firsts[of_frame], counts)
     named = rings, starts_of(counts)
     points = work.town_coordinates[towns]
     town, row = held(work.rings.coordinates, work.rings.starts, named, points)

@@ -14,7 +14,7 @@ import pandas as pd
 
 from .grid import Places
 from .shapes import Flags
-from .topology import Integers, Topology, ranges, starts_of, within
+from .topology import Integers, Topology, counted_from, starts_of, within
 
 _PAIRS = 2_000_000
 _BLOCK = 16
@@ -200,14 +200,14 @@ class Blocks:
             high = np.maximum.reduceat(values, cuts)[::2]
             return np.minimum(low, values[self.last]), np.maximum(high, values[self.last])
         counts = self.last - self.first + 1
-        at = ranges(self.first, counts)
+        at = counted_from(self.first, counts)
         firsts = starts_of(counts)[:-1]
         return np.minimum.reduceat(values[at], firsts), np.maximum.reduceat(values[at], firsts)
 
     def edges(self, block: Integers, point: Integers) -> tuple[Integers, Integers, Integers]:
         """Give, for pairs of a block and a point, each with each edge of the block."""
         counts = (self.last - self.first)[block]
-        edge = ranges(self.first[block], counts)
+        edge = counted_from(self.first[block], counts)
         return np.repeat(block, counts), edge, np.repeat(point, counts)
 
 
@@ -283,14 +283,14 @@ def _is_near(blocks: Blocks, edge: Integers, x: Any, y: Any, margin: int) -> Fla
     near = (np.minimum(across, 0) - margin <= x) & (x <= np.maximum(across, 0) + margin)
     near &= (np.minimum(up, 0) - margin <= y) & (y <= np.maximum(up, 0) + margin)
     near &= np.abs(across * y - up * x) <= margin * (np.abs(across) + np.abs(up))
-    return near
+    return np.asarray(near)
 
 
-Ranges = tuple[Any, Any]
+Spans = tuple[Any, Any]
 """The least and the greatest value of each box on an axis."""
 
 
-def thinned_boxes(before: Topology, after: Topology) -> tuple[Ranges, Ranges] | None:
+def thinned_boxes(before: Topology, after: Topology) -> tuple[Spans, Spans] | None:
     """Give the boxes round the runs of positions that were dropped, with the ends of each run.
 
     A place outside them is on the same side of each arc, before and after. None where the arcs
@@ -320,7 +320,7 @@ def thinned_boxes(before: Topology, after: Topology) -> tuple[Ranges, Ranges] | 
     return _range_of(x, at, runs), _range_of(y, at, runs)
 
 
-def _range_of(values: Any, at: Integers, runs: Integers) -> Ranges:
+def _range_of(values: Any, at: Integers, runs: Integers) -> Spans:
     """Give the least and the greatest value from ``at[r]`` to ``at[r + 1]``, of some r."""
     last = values[at[runs + 1]]
     low, high = np.minimum.reduceat(values, at)[runs], np.maximum.reduceat(values, at)[runs]
@@ -344,7 +344,7 @@ class Cells:
     def _strip(self, y: Any) -> Integers:
         return _part(y, self.y, self._strips)
 
-    def in_boxes(self, across: Ranges, up: Ranges) -> Iterator[tuple[Integers, Integers]]:
+    def in_boxes(self, across: Spans, up: Spans) -> Iterator[tuple[Integers, Integers]]:
         """Give, in runs, pairs of a box and a point in it; the edges of a box belong to it.
 
         A box looks at its part of each strip.
@@ -356,7 +356,7 @@ class Cells:
         bottom, top = (self._strip(y[worth]) for y in up)
         counts = top - bottom + 1
         box = np.repeat(np.arange(len(worth)), counts)
-        line = ranges(bottom, counts) * self._columns
+        line = counted_from(bottom, counts) * self._columns
         first = self._firsts[line + left[box]]
         counts = self._firsts[line + right[box] + 1] - first
         full = np.flatnonzero(counts)
@@ -364,7 +364,7 @@ class Cells:
         for start, end in _chunks(counts):
             some = slice(start, end)
             which = np.repeat(box[some], counts[some])
-            point = self._order[ranges(first[some], counts[some])]
+            point = self._order[counted_from(first[some], counts[some])]
             x, y = self.x[point], self.y[point]
             inside = (across[0][which] <= x) & (x <= across[1][which])
             inside &= (up[0][which] <= y) & (y <= up[1][which])
@@ -377,12 +377,12 @@ def _part(values: Any, points: Any, count: int) -> Integers:
         return np.zeros(len(values), dtype=np.int64)
     low, high = points.min(), points.max()
     parts = (np.clip(values, low, high) - low) / ((high - low) or 1) * count
-    return np.minimum(parts.astype(np.int64), count - 1)
+    return np.asarray(np.minimum(parts.astype(np.int64), count - 1))
 
 
-def _meets(ranges: Ranges, points: Any) -> Flags:
-    """Tell which ranges are not empty and may hold one of the points."""
-    low, high = ranges
+def _meets(spans: Spans, points: Any) -> Flags:
+    """Tell which spans are not empty and may hold one of the points."""
+    low, high = spans
     return np.asarray((low <= high) & (high >= points.min()) & (low <= points.max()))
 
 
@@ -406,7 +406,7 @@ def _pairs(
     for start, end in _chunks(counts[worth]):
         some = worth[start:end]
         block = np.repeat(some, counts[some])
-        yield block, order[ranges(first[some], counts[some])]
+        yield block, order[counted_from(first[some], counts[some])]
 
 
 def held(
@@ -441,7 +441,7 @@ def held_by(
     for block, point, _ in crossings(blocks, (cells.x, cells.y), pairs):
         line = blocks.line[block]
         counts = uses[line]
-        crossed = row[ranges(firsts[line], counts)]
+        crossed = row[counted_from(firsts[line], counts)]
         point = np.repeat(point, counts)
         over = cells.y[point] >= bottoms[crossed]
         pieces.append(point[over] * len(row_starts) + crossed[over])

@@ -13,7 +13,7 @@ import numpy.typing as npt
 from .build import keys_of
 from .command import Weights
 from .grid import Places
-from .topology import Integers, Topology, arcs_text, ranges, starts_of
+from .topology import Integers, Topology, arcs_text, counted_from, starts_of
 
 MOST_CHAIN_EDGES = 1_023
 """A chain has at most so many edges."""
@@ -125,7 +125,7 @@ class Tiling:
 
     def _number_ranges(self) -> None:
         counts = self.range_high - self.range_low
-        at = ranges(self.range_low, counts)
+        at = counted_from(self.range_low, counts)
         self.range_of[at] = np.repeat(np.arange(len(counts)), counts).astype(np.int32)
 
     def _deal(self, tile_positions: int) -> list[Tile]:
@@ -140,7 +140,7 @@ class Tiling:
 
     def _range_boxes(self) -> tuple[Places, Places]:
         counts = self.range_high - self.range_low + 1
-        at = ranges(self.range_low, counts)
+        at = counted_from(self.range_low, counts)
         firsts = starts_of(counts)[:-1]
         rows = self.places[at]
         return np.minimum.reduceat(rows, firsts), np.maximum.reduceat(rows, firsts)
@@ -243,7 +243,7 @@ class Snapshot:
         owned = int(own[firsts].sum())
         start = edges[firsts][order]
         counts = edges[lasts][order] - start + 2
-        at = ranges(start, counts)
+        at = counted_from(start, counts)
         return CutOut(at, starts_of(counts), owned, label[firsts][order][:owned])
 
 

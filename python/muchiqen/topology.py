@@ -50,11 +50,11 @@ class Named:
     def some(self, polygons: Integers) -> "Named":
         """Give what some of the polygons name."""
         part_counts = np.diff(self.parts)[polygons]
-        parts = ranges(self.parts[polygons], part_counts)
+        parts = counted_from(self.parts[polygons], part_counts)
         ring_counts = np.diff(self.rings)[parts]
-        rings = ranges(self.rings[parts], ring_counts)
+        rings = counted_from(self.rings[parts], ring_counts)
         counts = np.diff(self.starts)[rings]
-        references = self.references[ranges(self.starts[rings], counts)]
+        references = self.references[counted_from(self.starts[rings], counts)]
         return Named(references, *map(starts_of, (counts, ring_counts, part_counts)))
 
     @property
@@ -270,14 +270,14 @@ def closed(starts: Integers) -> Integers:
 
 def within(counts: Integers) -> Integers:
     """Give 0, 1, .. up to each count, one after the other."""
-    return ranges(0, counts)
+    return counted_from(0, counts)
 
 
-def ranges(firsts: Any, counts: Integers) -> Integers:
+def counted_from(firsts: Any, counts: Integers) -> Integers:
     """Give each first number and those that follow it, as many as its count says."""
     ends = np.cumsum(counts)
     total = int(ends[-1]) if len(ends) else 0
-    return np.arange(total) + np.repeat(firsts - ends + counts, counts)
+    return np.asarray(np.arange(total) + np.repeat(firsts - ends + counts, counts))
 
 
 def arcs_text(places: Places, starts: Integers, *, coded: bool = False) -> bytes:
