@@ -34,16 +34,20 @@ def _read_as_laid(text: bytes, layout: Layout) -> Made | None:
     """
     end = text.find(_ARCS)
     rows, arcs = text[len(_HEAD) : end], text[end + len(_ARCS) : -1]
-    if end < 0 or not text.startswith(_HEAD) or not text.endswith(b"}") or b'"' in arcs:
+    if end < 0 or not text.startswith(_HEAD) or not text.endswith(b"]}") or b'"' in arcs:
         return None
     rings = _RING.findall(rows)
-    if len(rings) != layout.rings[-1] or b",".join(row_texts(rings, layout, b"arcs")) != rows:
+    if len(rings) != layout.rings[-1] or _spelled(rings, layout) != rows:
         return None
     ring_starts = starts_of([ring.count(b",") + 1 for ring in rings])
     there = np.append(np.diff(layout.parts) > 0, True)
     named = Named(whole_numbers(b",".join(rings)), ring_starts, layout.rings, layout.parts[there])
     places, starts = read_arcs(arcs, end + len(_ARCS))
     return Topology(places, starts), named, LongList(b"[" + rows + b"]")
+
+
+def _spelled(rings: list[bytes], layout: Layout) -> bytes:
+    return b",".join(row_texts(rings, layout, b"arcs", b'{"type":null}'))
 
 
 def _read_as_json(text: bytes) -> Made:

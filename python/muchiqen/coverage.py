@@ -198,7 +198,7 @@ def _joined_notes(coordinates: Coordinates, places: Places) -> list[str]:
 
 def geojson(rings: Snapped) -> bytes:
     """Give the FeatureCollection that ``build`` reads: one feature a row."""
-    rows = row_texts(_ring_texts(rings), rings.layout, b"coordinates")
+    rows = row_texts(_ring_texts(rings), rings.layout, b"coordinates", b"null")
     if not len(rows):
         return b'{"type":"FeatureCollection","features":[]}'
     features = b'},{"type":"Feature","geometry":'.join(rows)
@@ -206,9 +206,12 @@ def geojson(rings: Snapped) -> bytes:
     return start + features + b"}]}"
 
 
-def row_texts(rings: Sequence[bytes], layout: Layout, member: bytes) -> Objects:
-    """Give each row as a JSON geometry; ``rings`` are the texts of its rings in ``member``."""
-    rows = np.full(layout.row_count, b"null", dtype=object)
+def row_texts(rings: Sequence[bytes], layout: Layout, member: bytes, nothing: bytes) -> Objects:
+    """Give each row as a JSON geometry, ``nothing`` where it has no part.
+
+    ``rings`` are the texts of all rings, which the geometries have in ``member``.
+    """
+    rows = np.full(layout.row_count, nothing, dtype=object)
     full = np.diff(layout.parts) > 0
     parts = _joined(np.array(rings, dtype=object), layout.rings, b",")
     bodies = _joined(parts, layout.parts[np.append(full, True)], b"],[")
