@@ -345,30 +345,31 @@ class Cells:
         return _part(y, self.y, self._strips)
 
     def in_boxes(self, across: Spans, up: Spans) -> Iterator[tuple[Integers, Integers]]:
-        """Give, in runs, pairs of a box and a point in it; the edges of a box belong to it.
-
-        A box looks at its part of each strip.
-        """
+        """Give, in runs, pairs of a box and a point in it; the edges of a box belong to it."""
         if not len(self.x):
             return
         worth = np.flatnonzero(_meets(across, self.x) & _meets(up, self.y))
         left, right = (self._column(x[worth]) for x in across)
         bottom, top = (self._strip(y[worth]) for y in up)
         counts = top - bottom + 1
-        box = np.repeat(np.arange(len(worth)), counts)
-        line = counted_from(bottom, counts) * self._columns
-        first = self._firsts[line + left[box]]
-        counts = self._firsts[line + right[box] + 1] - first
-        full = np.flatnonzero(counts)
-        box, first, counts = worth[box[full]], first[full], counts[full]
         for start, end in _chunks(counts):
-            some = slice(start, end)
-            which = np.repeat(box[some], counts[some])
-            point = self._order[counted_from(first[some], counts[some])]
-            x, y = self.x[point], self.y[point]
-            inside = (across[0][which] <= x) & (x <= across[1][which])
-            inside &= (up[0][which] <= y) & (y <= up[1][which])
-            yield which[inside], point[inside]
+            some = np.arange(start, end)
+            at = np.repeat(some, counts[some])
+            strip = counted_from(bottom[some], counts[some]) * self._columns
+            for run, point in self._in_runs(strip + left[at], strip + right[at]):
+                box, x, y = worth[at[run]], self.x[point], self.y[point]
+                inside = (across[0][box] <= x) & (x <= across[1][box])
+                inside &= (up[0][box] <= y) & (y <= up[1][box])
+                yield box[inside], point[inside]
+
+    def _in_runs(self, first: Integers, last: Integers) -> Iterator[tuple[Integers, Integers]]:
+        """Give, in runs, pairs of a number and a point in the cells from its first to its last."""
+        low = self._firsts[first]
+        counts = self._firsts[last + 1] - low
+        full = np.flatnonzero(counts)
+        for start, end in _chunks(counts[full]):
+            some = full[start:end]
+            yield np.repeat(some, counts[some]), self._order[counted_from(low[some], counts[some])]
 
 
 def _part(values: Any, points: Any, count: int) -> Integers:
