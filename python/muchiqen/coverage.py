@@ -74,9 +74,9 @@ def is_missing(geometry: Any) -> bool:
 
 def _others(shapes: npt.NDArray[np.object_]) -> list[int]:
     """Give the rows that are neither polygons nor multipolygons nor None."""
-    if {type(shape) for shape in shapes} <= {Polygon, MultiPolygon, type(None)}:
-        return []
     kinds = (Polygon, MultiPolygon, type(None))
+    if set(map(type, shapes)) <= set(kinds):
+        return []
     return [row for row, shape in enumerate(shapes) if not isinstance(shape, kinds)]
 
 

@@ -204,11 +204,17 @@ class Blocks:
         firsts = starts_of(counts)[:-1]
         return np.minimum.reduceat(values[at], firsts), np.maximum.reduceat(values[at], firsts)
 
-    def edges(self, block: Integers, point: Integers) -> tuple[Integers, Integers, Integers]:
-        """Give, for pairs of a block and a point, each with each edge of the block."""
+    def edges_at(self, block: Integers, x: Any, margin: int) -> tuple[Integers, Integers]:
+        """Give pairs of a number and an edge of the block of that number, which passes by its x.
+
+        That is within ``margin``.
+        """
         counts = (self.last - self.first)[block]
         edge = counted_from(self.first[block], counts)
-        return np.repeat(block, counts), edge, np.repeat(point, counts)
+        number = np.repeat(np.arange(len(block)), counts)
+        a, b, x = self.x[edge], self.x[edge + 1], x[number]
+        near = (np.minimum(a, b) - margin <= x) & (x <= np.maximum(a, b) + margin)
+        return number[near], edge[near]
 
 
 def crossings(
@@ -243,7 +249,8 @@ def _beside(
     blocks: Blocks, block: Integers, point: Integers, px: Any, py: Any
 ) -> tuple[Integers, Integers, Integers]:
     """Of blocks in whose boxes the points are: edge by edge."""
-    block, edge, point = blocks.edges(block, point)
+    number, edge = blocks.edges_at(block, px[point], 0)
+    block, point = block[number], point[number]
     x, y = px[point], py[point]
     x0, y0, x1, y1 = blocks.x[edge], blocks.y[edge], blocks.x[edge + 1], blocks.y[edge + 1]
     right = _comes_before(x0, y0, x, y) & _comes_before(x, y, x1, y1)
@@ -270,7 +277,8 @@ def close_to(blocks: Blocks, cells: "Cells", margin: int) -> tuple[Integers, Int
     across = blocks.left - margin, blocks.right + margin
     up = blocks.low - margin, blocks.high + margin
     for block, point in cells.in_boxes(across, up):
-        block, edge, point = blocks.edges(block, point)
+        number, edge = blocks.edges_at(block, cells.x[point], margin)
+        block, point = block[number], point[number]
         near = _is_near(blocks, edge, cells.x[point], cells.y[point], margin)
         close.append(point[near])
         arcs.append(blocks.line[block[near]])
@@ -278,10 +286,10 @@ def close_to(blocks: Blocks, cells: "Cells", margin: int) -> tuple[Integers, Int
 
 
 def _is_near(blocks: Blocks, edge: Integers, x: Any, y: Any, margin: int) -> Flags:
+    """Tell of edges that pass by x whether they pass by the point."""
     x, y = x - blocks.x[edge], y - blocks.y[edge]
     across, up = blocks.x[edge + 1] - blocks.x[edge], blocks.y[edge + 1] - blocks.y[edge]
-    near = (np.minimum(across, 0) - margin <= x) & (x <= np.maximum(across, 0) + margin)
-    near &= (np.minimum(up, 0) - margin <= y) & (y <= np.maximum(up, 0) + margin)
+    near = (np.minimum(up, 0) - margin <= y) & (y <= np.maximum(up, 0) + margin)
     near &= np.abs(across * y - up * x) <= margin * (np.abs(across) + np.abs(up))
     return np.asarray(near)
 

@@ -25,7 +25,7 @@ def towns_of(
         points = points.to_crs(crs)
         notes.append("the towns were brought to the CRS of the coverage")
     shapes = np.asarray(points.array.data, dtype=object)
-    if {type(shape) for shape in shapes} <= {Point}:
+    if set(map(type, shapes)) <= {Point}:
         coordinates = points_of(shapes)
         if coordinates is not None and np.isfinite(coordinates).all():
             return points.index.tolist(), coordinates
