@@ -7,13 +7,12 @@ from typing import Any
 import geopandas as gpd
 import numpy as np
 import numpy.typing as npt
-import pandas as pd
 from shapely.geometry import MultiPolygon, Polygon
 
 from .errors import NotACoverage
 from .grid import Coordinates, Grid, Places, extent
 from .shapes import Flags, Layout, Objects, take_apart
-from .topology import Integers, closed, columns_at, lists_text, starts_of
+from .topology import Integers, alike, closed, columns_at, lists_text, starts_of
 
 
 @dataclass
@@ -167,17 +166,14 @@ def _without_flat(
 
 def _joined_notes(coordinates: Coordinates, places: Places) -> list[str]:
     """Say where positions that were apart came together on the grid."""
-    numbers, _ = pd.factorize((places[:, 0] << 31) + places[:, 1])
-    some = np.empty(len(places), dtype=np.int64)
-    some[numbers] = np.arange(len(places))
-    others = some[numbers]
+    others = alike((places[:, 0] << 31) + places[:, 1])
     x, y = coordinates[:, 0], coordinates[:, 1]
     differs = (x != x[others]) | (y != y[others])
     if not differs.any():
         return []
     mixed = np.zeros(len(places), dtype=bool)
-    mixed[numbers[differs]] = True
-    at = np.flatnonzero(mixed[numbers])
+    mixed[others[differs]] = True
+    at = np.flatnonzero(mixed[others])
     coordinates, places = coordinates[at], places[at]
     order = np.lexsort((coordinates[:, 1], coordinates[:, 0], places[:, 1], places[:, 0]))
     found, where = coordinates[order], places[order]

@@ -14,7 +14,7 @@ import pandas as pd
 
 from .grid import Places
 from .shapes import Flags
-from .topology import Integers, Topology, counted_from, starts_of, within
+from .topology import Integers, Topology, alike, counted_from, starts_of, within
 
 _PAIRS = 2_000_000
 _BLOCK = 16
@@ -304,20 +304,20 @@ def thinned_boxes(before: Topology, after: Topology) -> tuple[Spans, Spans] | No
     A place outside them is on the same side of each arc, before and after. None where the arcs
     after are not told to be those before with inner positions left out.
     """
-    same = np.array_equal(np.diff(before.starts) > 1, np.diff(after.starts) > 1)
-    if before.arc_count != after.arc_count or not same or not (np.diff(before.starts) > 1).all():
+    as_many = before.arc_count == after.arc_count
+    if not as_many or any((np.diff(one.starts) < 2).any() for one in (before, after)):
         return None
     count = len(before.places)
     both = np.concatenate((before.places, after.places))
-    numbers, found = pd.factorize((both[:, 0] << 31) + both[:, 1])
+    same = alike((both[:, 0] << 31) + both[:, 1])
     ends = np.zeros(count, dtype=bool)
     ends[before.starts[:-1]], ends[before.starts[1:] - 1] = True, True
     inner = np.flatnonzero(~ends)
-    place = np.full(len(found), -1, dtype=np.int64)
-    place[numbers[inner]] = inner
-    if (place[numbers[inner]] != inner).any():
+    place = np.full(len(both), -1, dtype=np.int64)
+    place[same[inner]] = inner
+    if (place[same[inner]] != inner).any():
         return None
-    at = place[numbers[count:]]
+    at = place[same[count:]]
     at[after.starts[:-1]], at[after.starts[1:] - 1] = before.starts[:-1], before.starts[1:] - 1
     if (at < 0).any() or (np.diff(at) <= 0).any() or (both[at] != after.places).any():
         return None

@@ -268,6 +268,26 @@ def closed(starts: Integers) -> Integers:
     return np.insert(np.arange(starts[-1]), starts[1:], starts[:-1])
 
 
+def alike(keys: Integers) -> Integers:
+    """Give for each key where one that equals it stands: for equal keys the same one.
+
+    Keys are put into a table by their hash. Those over which another was put go again, by another
+    hash.
+    """
+    bits = 1 + len(keys).bit_length()
+    table, found = np.empty(1 << bits, dtype=np.int64), np.empty(len(keys), dtype=np.int64)
+    left, rest, factor = np.arange(len(keys)), keys, _FACTOR
+    while len(left):
+        hashes = rest.view(np.uint64) * np.uint64(factor)
+        slots = (hashes >> np.uint64(64 - bits)).view(np.int64)
+        table[slots] = left
+        there = table[slots]
+        found[left] = there
+        other = np.flatnonzero(keys[there] != rest)
+        left, rest, factor = left[other], rest[other], factor * _FACTOR % 2**64
+    return found
+
+
 def within(counts: Integers) -> Integers:
     """Give 0, 1, .. up to each count, one after the other."""
     return counted_from(0, counts)
@@ -372,6 +392,9 @@ def _lone_twice(places: Places, starts: Integers) -> tuple[Places, Integers]:
 
 
 _CHUNK = 10_000
+_FACTOR = 0x9E3779B97F4A7C15
+"""An odd number of 64 bits; the first bits of products with it are scattered."""
+
 _NUMBERS = re.compile(r"[-+\[\]0-9 \t\r\n,.eE]+")
 _OPEN = ord("[")
 _NO_BRACKETS = bytes(set(range(256)) - set(b"[]"))

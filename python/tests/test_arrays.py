@@ -9,7 +9,15 @@ import pytest
 from muchiqen import answer
 from muchiqen.shapes import Layout
 from muchiqen.sides import Cells
-from muchiqen.topology import LongList, Named, PositionList, Topology, counted_from, starts_of
+from muchiqen.topology import (
+    LongList,
+    Named,
+    PositionList,
+    Topology,
+    alike,
+    counted_from,
+    starts_of,
+)
 
 ARCS = [[[0, 0], [5, 0], [5, -5]], [[5, -5], [0, 0]], [[1, -1], [2, -1], [2, -2], [1, -1]]]
 SHAPES = [[[[0, 1], [-3]]], None, [[[2]], [[-2, -1], [2]]]]
@@ -99,3 +107,13 @@ def test_numbers_are_counted_from_each_first() -> None:
     assert counted_from(np.array([5, 0, 9]), np.array([2, 0, 3])).tolist() == [5, 6, 9, 10, 11]
     assert counted_from(np.array([1]), np.array([0])).tolist() == []
     assert starts_of([]).tolist() == [0]
+
+
+@pytest.mark.parametrize("count", [0, 1, 7, 5000])
+def test_equal_keys_are_found_alike(count: int) -> None:
+    numbers = np.random.default_rng(count)
+    few = numbers.integers(-(2**62), 2**62, 1 + count // 3)
+    keys = few[numbers.integers(0, len(few), count)]
+    found = alike(keys)
+    assert np.array_equal(keys[found], keys)
+    assert len(np.unique(found)) == len(np.unique(keys))
