@@ -7,7 +7,7 @@
 `frames` reads each TopoJSON MAP, makes it a GeoDataFrame in degrees (with its points as towns) and
 calls `muchiqen.simplify`. A line has the processor seconds, user and system, of the command's
 `simplify` alone, of all runs of the command in the call, and of the call besides, each the least
-of some calls, and what the whole call takes beside the command's `simplify`.
+of some calls, and what the whole call takes beside all runs of the command, and beside `simplify`.
 
 `large` makes a map of CELLS by CELLS cells, as `make` does (820 gives 12,117,960 positions), and
 thins it by `muchiqen.simplify_large` with each number of workers, each time in a process of its
@@ -87,7 +87,8 @@ def measure_frame(path: pathlib.Path, tolerance: float, repeat: int) -> None:
         f"{path.name}: {len(frame)} rows, {report.positions_before} positions, "
         f"{0 if towns is None else len(towns)} towns, arcs by {report.built_by}: "
         f"simplify alone {best[0]:.3f} s, all runs {best[1]:.3f} s, besides {best[2]:.3f} s, "
-        f"the call is {(best[1] + best[2]) / best[0]:.1f} times simplify",
+        f"the call is {(best[1] + best[2]) / best[1]:.2f} times all runs, "
+        f"{(best[1] + best[2]) / best[0]:.1f} times simplify",
         flush=True,
     )
 
