@@ -24,7 +24,8 @@ pub fn edge_at(chain: &[Point], direction: Direction, p: Point) -> usize
     requires to_last { ¬ (IsAlong direction.frame direction.rising
         (vertex_at chain.now (length chain.now - 1)) p) }
     ensures in_chain { result + 1 < length chain.now }
-    ensures from_start { ¬ (IsAlong direction.frame direction.rising p (vertex_at chain.now result)) }
+    ensures from_start { ¬ (IsAlong direction.frame direction.rising p
+        (vertex_at chain.now result)) }
     ensures to_end { ¬ (IsAlong direction.frame direction.rising (vertex_at chain.now (result + 1))
         p) }
 {
