@@ -5,8 +5,11 @@ ghost use Rattle.sweep_index.specs.Offsets.{offset_of};
 
 use grid_exact::{MAX_COORDINATE, Point};
 
-// How many columns and how many rows there are at most.
-const MOST: u32 = 1 << 11;
+// How many cells there are at most.
+const MOST_CELLS: u32 = 1 << 22;
+
+// How many columns and how many rows are not too many, whatever the other number is.
+const MOST_EACH: u32 = 1 << 11;
 
 /// How far a coordinate is above the least one, in grid units.
 pub fn offset(z: i64) -> u32
@@ -29,8 +32,7 @@ pub struct Grid {
     pub ghost wide: { 0 < side },
     pub ghost some_columns: { 0 < columns },
     pub ghost some_rows: { 0 < rows },
-    pub ghost few_columns: { columns ≤ 2 ^ 11 },
-    pub ghost few_rows: { rows ≤ 2 ^ 11 },
+    pub ghost few: { rows * columns ≤ 2 ^ 22 },
 }
 
 impl Grid {
@@ -40,13 +42,14 @@ impl Grid {
     pub fn over(bounds: Bounds, count: usize) -> Grid {
         let width = bounds.width();
         let height = bounds.height();
-        let side = side_for(width, height, count as u64);
+        let side = side_for(width, height, (count as u64).min(u64::from(MOST_CELLS)));
+        let (rows, columns) = few(cells_along(height, side), cells_along(width, side));
         Grid {
             west: bounds.west,
             south: bounds.south,
             side,
-            columns: (width / side).min(MOST - 1) + 1,
-            rows: (height / side).min(MOST - 1) + 1,
+            columns,
+            rows,
         }
     }
 
@@ -92,6 +95,28 @@ impl Grid {
     {
         self.rows * self.columns
     }
+}
+
+// How many cells of this side lie along a length.
+fn cells_along(length: u32, side: u32) -> u32
+    requires { 0 < side }
+    ensures { 0 < result }
+{
+    (length / side).saturating_add(1)
+}
+
+// These rows and columns, or fewer of both where they make too many cells.
+fn few(rows: u32, columns: u32) -> (u32, u32)
+    requires rows { 0 < rows }
+    requires columns { 0 < columns }
+    ensures some_rows { 0 < result.0 }
+    ensures some_columns { 0 < result.1 }
+    ensures cells { result.0 * result.1 ≤ 2 ^ 22 }
+{
+    if rows.saturating_mul(columns) <= MOST_CELLS {
+        return (rows, columns);
+    }
+    (rows.min(MOST_EACH), columns.min(MOST_EACH))
 }
 
 // A side for which square cells over this width and height are not more than `count`.
