@@ -14,7 +14,7 @@ ghost use Rattle.side_wedge.specs.Strays.{RunsAlong, IsStrayItem, IsStrayOf, str
 use crate::strays::{Stray, stray_of};
 use chain_reach::{Extent, Steps, block_end, block_round, block_size, may_reach};
 use grid_exact::{Direction, Point};
-use map_index::IndexedMap;
+use map_index::{IndexedMap, is_other};
 use sweep_index::{Item, Walk};
 
 // A chain that is looked round: its number, its vertices, how they run, and how far from an edge a
@@ -200,6 +200,9 @@ fn near_stray(subject: &Subject<'_>, part: &[Point], item: Item) -> Option<Stray
         item s hand → IsNearSomeEdge subject.now.steps part.now item.at
         → result ≡ Some (stray s hand item.at) }
 {
+    if !is_other(item.owner, subject.number) {
+        return None;
+    }
     if is_at_end(subject.chain, item.at) {
         return None;
     }
