@@ -7,8 +7,14 @@ use crate::extent::Extent;
 use crate::steps::{Steps, reaches};
 use grid_exact::Point;
 
-// How many edges a block has.
+// How many edges a block has at most.
 const BLOCK: usize = 8;
+
+// Where more items than this were found in the box of a block, the next one may have fewer edges.
+const MANY: usize = 32;
+
+// Where fewer items than this were found, the next one has more edges.
+const FEW: usize = 8;
 
 /// How many edges to look round at once, where the box `whole` is round the walk: a few, or all of
 /// them where boxes round a few would not be much smaller together.
@@ -35,6 +41,60 @@ fn size_of_blocks(walk: &[Point], steps: Steps, whole: &Extent) -> u64
         start = end;
     }
     sum
+}
+
+/// How many edges to look round at once from the place number `start` on, where the block before it
+/// had `size` edges and so many items were found in its box: half as many where these are many and
+/// the boxes round the halves are smaller together, twice as many where these are few.
+pub fn next_size(
+    walk: &[Point],
+    start: usize,
+    size: usize,
+    found: usize,
+    steps: Steps,
+    whole: &Extent,
+) -> usize
+    requires start { start + 1 < length walk.now }
+    requires size { 0 < size }
+    ensures { 0 < result }
+{
+    if found < FEW {
+        return more_edges(size);
+    }
+    if found <= MANY {
+        return size;
+    }
+    if size < 2 {
+        return size;
+    }
+    fewer_edges(walk, start, size, steps, whole)
+}
+
+// Twice as many edges, where a block may have so many.
+fn more_edges(size: usize) -> usize
+    requires { 0 < size }
+    ensures { 0 < result }
+{
+    if size <= BLOCK / 2 { 2 * size } else { size }
+}
+
+// Half as many edges, where the boxes round the two halves of the block that begins at the place
+// number `start` are smaller together than the box round it; else as many.
+fn fewer_edges(walk: &[Point], start: usize, size: usize, steps: Steps, whole: &Extent) -> usize
+    requires start { start + 1 < length walk.now }
+    requires size { 2 ≤ size }
+    ensures { 0 < result }
+{
+    let end = block_end(walk, start, size);
+    let middle = block_end(walk, start, size / 2).min(end);
+    let first = block_round(walk, start, middle, steps, whole).size();
+    let second = block_round(walk, middle, end, steps, whole).size();
+    let both = block_round(walk, start, end, steps, whole).size();
+    if first.saturating_add(second) < both / 8 * 5 {
+        size / 2
+    } else {
+        size
+    }
 }
 
 /// The number of the last place of the block of so many edges that begins at the place number

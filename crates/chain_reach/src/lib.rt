@@ -7,7 +7,7 @@ mod extent;
 mod laws;
 mod steps;
 
-pub use blocks::{block_end, block_round, block_size, may_reach};
+pub use blocks::{block_end, block_round, block_size, may_reach, next_size};
 pub use extent::Extent;
 pub use laws::{
     boxes_find_reach, in_reach_or_out, only_reach_counts, only_reach_counts_of_chain,

@@ -12,7 +12,7 @@ ghost use Rattle.side_wedge.specs.Gathered.{AreStraysOf, AreStraysTo, AreMapStra
 ghost use Rattle.side_wedge.specs.Strays.{RunsAlong, IsStrayItem, IsStrayOf, stray};
 
 use crate::strays::{Stray, stray_of};
-use chain_reach::{Extent, Steps, block_end, block_round, block_size, may_reach};
+use chain_reach::{Extent, Steps, block_end, block_round, block_size, may_reach, next_size};
 use grid_exact::{Direction, Point};
 use map_index::{IndexedMap, is_other};
 use sweep_index::{Item, Walk};
@@ -64,8 +64,9 @@ fn find(strays: &mut Vec<Stray>, subject: &Subject<'_>, map: &IndexedMap)
     take_whole(strays, subject, map, &whole);
 }
 
-// Leaves what is near the edges of the chain, found block after block. What is near several blocks
-// is taken several times, which does no harm; false where there is no room for that.
+// Leaves what is near the edges of the chain, found block after block, the first one of `size`
+// edges. What is near several blocks is taken several times, which does no harm; false where there
+// is no room for that.
 fn take_blocks(
     strays: &mut Vec<Stray>,
     subject: &Subject<'_>,
@@ -87,9 +88,12 @@ fn take_blocks(
 {
     strays.clear();
     let mut start = 0;
+    let mut edges = size;
+    let mut found = 0;
     while start + 1 < subject.chain.len() {
-        let end = block_end(subject.chain, start, size);
-        if !take_block(strays, subject, map, whole, start, end) {
+        edges = next_size(subject.chain, start, edges, found, subject.steps, whole);
+        let end = block_end(subject.chain, start, edges);
+        if !take_block(strays, &mut found, subject, map, whole, start, end) {
             return false;
         }
         start = end;
@@ -97,10 +101,11 @@ fn take_blocks(
     true
 }
 
-// Takes what is near the edges from the vertex number `start` to the number `end`; false where
-// there is no room for that.
+// Takes what is near the edges from the vertex number `start` to the number `end`, and leaves in
+// `found` how many items are in their box; false where there is no room for that.
 fn take_block(
     strays: &mut Vec<Stray>,
+    found: &mut usize,
     subject: &Subject<'_>,
     map: &IndexedMap,
     whole: &Extent,
@@ -128,6 +133,7 @@ fn take_block(
     let part = &subject.chain[start..end + 1];
     collect(
         strays,
+        found,
         subject,
         part,
         map.item_count(),
@@ -148,8 +154,10 @@ fn take_whole(strays: &mut Vec<Stray>, subject: &Subject<'_>, map: &IndexedMap, 
     ensures capacity { vec_capacity strays.new ≡ vec_capacity strays.old }
 {
     strays.clear();
+    let mut found = 0;
     let _all = collect(
         strays,
+        &mut found,
         subject,
         subject.chain,
         map.item_count(),
@@ -158,9 +166,11 @@ fn take_whole(strays: &mut Vec<Stray>, subject: &Subject<'_>, map: &IndexedMap, 
 }
 
 // Takes of the items of the walk those that stand beside edges of the chain: each at least that is
-// near an edge of the part. False where there was no room for one.
+// near an edge of the part. Leaves in `found` how many items the walk has, on which speed rests and
+// no answer. False where there was no room for one.
 fn collect(
     strays: &mut Vec<Stray>,
+    found: &mut usize,
     subject: &Subject<'_>,
     part: &[Point],
     room: usize,
@@ -178,7 +188,9 @@ fn collect(
     ensures count { vec_len strays.new ≤ room }
     ensures capacity { vec_capacity strays.new ≡ vec_capacity strays.old }
 {
+    *found = 0;
     for (_, item) in walk {
+        *found = found.saturating_add(1);
         if !push_within(strays, near_stray(subject, part, item), room) {
             return false;
         }

@@ -8,6 +8,7 @@ loop-start-init c =
     let s = c.args.subject.now in
     record {
       within = omega (arith, c.requires.several);
+      some_edges = c.requires.size;
       taken = none_taken s.direction.frame s.direction.rising s.chain.now s.number s.steps c.args.map.now c.clear.new.self.items
           (search rules);
       count = search rules;
@@ -17,6 +18,7 @@ loop-start-init c =
 pub loop-start-preserved : goal.loop-start-preserved
 loop-start-preserved c = record {
   within = c.block_end-end.ensures.within;
+  some_edges = c.next_size-edges.ensures;
   taken = c.take_block.ensures.strays c.if-not-take_block.false c.loop-start.invariant.taken;
   count = c.take_block.ensures.count;
   capacity = c.take_block.ensures.capacity ∙ c.loop-start.invariant.capacity;

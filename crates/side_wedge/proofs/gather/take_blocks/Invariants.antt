@@ -7,6 +7,7 @@ use Rattle.side_wedge.proofs.gather.take_blocks.Given as goal
 abbrev pub invariant-loop-start : goal.invariant-loop-start
 invariant-loop-start l = record {
   within : l.start < length l.subject.chain.now;
+  some_edges : 0 < l.edges;
   taken : AreStraysTo l.subject.direction.frame l.subject.direction.rising l.subject.chain.now l.subject.number l.subject.steps l.map
       l.start l.strays.items;
   count : vec_len l.strays ≤ items_in l.map;
