@@ -45,7 +45,7 @@ impl MapIndex {
             ≡ length (items_of work.now.read.points work.now.chains)) }
     {
         let (items, firsts) = listed(alloc, work)?;
-        let index = Index::build(alloc, &items)?;
+        let index = Index::build(alloc, items)?;
         Ok(MapIndex { index, firsts })
     }
 

@@ -22,7 +22,7 @@ fn items_stand_in_boxes(rt: HostRuntime) -> Result<(), Fail> {
             owner: Owner::Chain(1),
         },
     ];
-    let Ok(mut index) = Index::build(rt.alloc(), &items) else {
+    let Ok(mut index) = Index::build(rt.alloc(), items.to_vec(rt.alloc())?) else {
         return Err(Fail::from("memory"));
     };
     let all = numbers(rt.alloc(), index.in_box(point(1, 0)?, point(3, 5)?))?;
