@@ -1,10 +1,8 @@
 -- The list of the items is indexed.
-use Rattle.std.proofs.Common.{◌∙◌, true, List, length, replicate, ap, subst}
+use Rattle.std.proofs.Common.{◌∙◌, length, ap}
 use Rattle.std.specs.List.{enumerate_from}
-use Rattle.std.specs.List.Sorted.{IsPermutation}
 use Rattle.std.proofs.lemmas.List.FromFn.{length-enumerate_from}
 use Rattle.std.proofs.lemmas.List.Sorted.{length_permutation}
-use Rattle.sweep_index.specs.declared.index.Item.{Item}
 use Rattle.map_index.specs.MapIndex.{Placed}
 use Rattle.map_index.proofs.Indexing.{index_at_first}
 use Rattle.map_index.proofs.index.MapIndex.build.Goals as goal
@@ -19,9 +17,8 @@ returns-clause-index c =
       firsts = c.in_ok-items.ensures.firsts;
       firsts_count = c.in_ok-items.ensures.firsts_count;
       refs_count = c.in_ok-items.ensures.refs_count;
-      numbered = subst (λ (xs : List Item). IsPermutation (enumerate_from 0 xs) index.numbered) c.deref.ensures.value
-          c.in_ok-index.ensures.numbered;
-      live = c.in_ok-index.ensures.live ∙ ap (λ (xs : List Item). replicate (length xs) true) c.deref.ensures.value;
+      numbered = c.in_ok-index.ensures.numbered;
+      live = c.in_ok-index.ensures.live;
       read = c.requires;
       edges = c.in_ok-items.ensures.edges;
     }
@@ -30,7 +27,5 @@ pub returns-clause-count : goal.returns-clause-count
 returns-clause-count c =
     let index = c.in_ok-index.index in
     let items = c.in_ok-items.items.items in
-    let numbered = subst (λ (xs : List Item). IsPermutation (enumerate_from 0 xs) index.numbered) c.deref.ensures.value
-    c.in_ok-index.ensures.numbered in
-    length_permutation (enumerate_from 0 items) index.numbered numbered ∙ length-enumerate_from 0 items
+    length_permutation (enumerate_from 0 items) index.numbered c.in_ok-index.ensures.numbered ∙ length-enumerate_from 0 items
     ∙ ap length c.in_ok-items.ensures.items
