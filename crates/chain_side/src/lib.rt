@@ -10,6 +10,3 @@ pub use decide::side;
 pub use laws::{one_edge_spans, outside_is_even, sides_tell_crossings};
 pub use search::{comes_before, edge_at};
 pub use sides::Side;
-
-#[cfg(test)]
-mod tests;

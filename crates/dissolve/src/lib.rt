@@ -12,6 +12,3 @@ mod walk;
 pub use laws::border_is_one;
 pub use rings::Rings;
 pub use walk::border;
-
-#[cfg(test)]
-mod tests;

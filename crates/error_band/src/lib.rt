@@ -5,6 +5,3 @@
 mod run;
 
 pub use run::near_run;
-
-#[cfg(test)]
-mod tests;

@@ -8,6 +8,3 @@ mod cone;
 mod ways;
 
 pub use cone::Cone;
-
-#[cfg(test)]
-mod tests;

@@ -33,6 +33,3 @@ mod rings;
 pub use fault::{GeoFault, GeoKind};
 pub use geo::GeoMap;
 pub use reader::read_geo;
-
-#[cfg(test)]
-mod tests;

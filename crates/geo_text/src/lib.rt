@@ -13,6 +13,3 @@ mod writer;
 
 pub use laws::built_text_reads;
 pub use text::built_text;
-
-#[cfg(test)]
-mod tests;

@@ -14,6 +14,3 @@ mod walk;
 
 pub use check::{Swept, check_by_sweep, sweep};
 pub use crowds::{check_map, hold_map};
-
-#[cfg(test)]
-mod tests;

@@ -11,6 +11,3 @@ mod text;
 pub use laws::{levels_are_one, ranks_are_one, run_keeps_places};
 pub use level::rank_all;
 pub use ranks::Ranks;
-
-#[cfg(test)]
-mod tests;

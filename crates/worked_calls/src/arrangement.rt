@@ -57,7 +57,8 @@ fn maps_of_two_edges(rt: HostRuntime) -> Result<(), Fail> {
     Ok(())
 }
 
-fn same(a: &CheckError, b: &CheckError) -> bool {
+// Whether both errors name the same edges.
+pub fn same(a: &CheckError, b: &CheckError) -> bool {
     match (a, b) {
         (CheckError::Edges(e, f), CheckError::Edges(g, h)) => e == g && f == h,
         (CheckError::PointOnArc(p, e), CheckError::PointOnArc(q, f)) => p == q && e == f,

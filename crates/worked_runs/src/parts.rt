@@ -4,6 +4,8 @@ ghost use Rattle.grid_exact.specs.Weights.{StaysOnGrid};
 
 use arc_map::ArcMap;
 use grid_exact::{Point, Weights};
+use json_scan::{Scan, scan};
+use std::alloc::Global;
 use std::test::Fail;
 
 // The point at these coordinates.
@@ -22,4 +24,12 @@ pub fn stays_on_grid(weights: Weights, map: &ArcMap) -> bool
         }
     }
     true
+}
+
+// The values of a short text, if it is JSON.
+pub fn scanned<'a>(alloc: Global, text: &'a str) -> Option<Scan<'a>> {
+    if text.len() > 4096 {
+        return None;
+    }
+    scan(alloc, text.as_bytes()).ok()
 }

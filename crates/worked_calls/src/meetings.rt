@@ -1,11 +1,11 @@
 //! Worked examples of edges that clash and edges that do not.
-use super::*;
-use grid_exact::Point;
-use std::test::*;
 
-fn point((x, y): (i64, i64)) -> Result<Point, Fail> {
-    Ok(Point::new(x, y).ok_or("a point of the grid")?)
-}
+use crate::parts::point;
+use segment_tests::{
+    Joint, Neighbours, apart_edges_are_ordered, clash, ordered_edges_are_apart, same_ends,
+    segments_meet_by_signs,
+};
+use std::test::*;
 
 // Both ends of both edges are ends of their arcs.
 fn all_ends() -> Joint {
@@ -79,7 +79,8 @@ fn edges_clash(rt: HostRuntime) -> Result<(), Fail> {
         ((0, 0), (4, 0), (6, 0), (6, 4), all_ends(), false),
         ((0, 0), (4, 0), (2, 1), (2, 4), all_ends(), false),
     ] {
-        let (a, b, c, d) = (point(a)?, point(b)?, point(c)?, point(d)?);
+        let (a, b) = (point(a.0, a.1)?, point(b.0, b.1)?);
+        let (c, d) = (point(c.0, c.1)?, point(d.0, d.1)?);
         assert!(rt; a != b);
         assert!(rt; c != d);
         assert_eq!(rt; clash(a, b, c, d, joint), want, "{joint:?}");
@@ -89,7 +90,7 @@ fn edges_clash(rt: HostRuntime) -> Result<(), Fail> {
 
 #[test]
 fn edges_have_the_same_ends(rt: HostRuntime) -> Result<(), Fail> {
-    let (a, b, c) = (point((0, 0))?, point((4, 0))?, point((0, 4))?);
+    let (a, b, c) = (point(0, 0)?, point(4, 0)?, point(0, 4)?);
     assert!(rt; same_ends(a, b, a, b));
     assert!(rt; same_ends(a, b, b, a));
     assert!(rt; !same_ends(a, b, a, c));

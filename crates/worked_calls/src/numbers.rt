@@ -1,12 +1,11 @@
-use super::*;
+//! Exact numbers and limits of the grid.
+
+use crate::parts::point;
+use grid_exact::{Bound, Point, Weights, area, length2, on_segment, threshold, within};
 use std::test::*;
 
 // The greatest coordinate.
 const FAR: i64 = 536870912;
-
-fn point((x, y): (i64, i64)) -> Result<Point, Fail> {
-    Ok(Point::new(x, y).ok_or("a point of the grid")?)
-}
 
 fn bound(e: u64) -> Result<Bound, Fail> {
     Ok(Bound::new(e).ok_or("a bound")?)
@@ -14,9 +13,9 @@ fn bound(e: u64) -> Result<Bound, Fail> {
 
 #[test]
 fn exact_numbers_at_the_corners(rt: HostRuntime) -> Result<(), Fail> {
-    let low = point((-FAR, -FAR))?;
-    let high = point((FAR, FAR))?;
-    assert_eq!(rt; area(low, point((FAR, -FAR))?, high), 1152921504606846976);
+    let low = point(-FAR, -FAR)?;
+    let high = point(FAR, FAR)?;
+    assert_eq!(rt; area(low, point(FAR, -FAR)?, high), 1152921504606846976);
     assert_eq!(rt; length2(low, high), 2305843009213693952);
     assert_eq!(rt;
         threshold(2305843009213693952, bound(1073741824)?),
@@ -30,7 +29,7 @@ fn exact_numbers_at_the_corners(rt: HostRuntime) -> Result<(), Fail> {
         ((5, 5), 5, true),
         ((5, 6), 4, false),
     ] {
-        let is_within = within(point((0, 0))?, point((2, 1))?, point(p)?, bound(e)?);
+        let is_within = within(point(0, 0)?, point(2, 1)?, point(p.0, p.1)?, bound(e)?);
         assert_eq!(rt; is_within, want, "at the bound {e}");
     }
     for (p, want) in [
@@ -39,7 +38,10 @@ fn exact_numbers_at_the_corners(rt: HostRuntime) -> Result<(), Fail> {
         ((3, 0), true),
         ((3, 1), false),
     ] {
-        assert_eq!(rt; on_segment(point((0, 0))?, point((4, 0))?, point(p)?), want);
+        assert_eq!(rt;
+            on_segment(point(0, 0)?, point(4, 0)?, point(p.0, p.1)?),
+            want
+        );
     }
     Ok(())
 }
@@ -62,12 +64,12 @@ fn limits(rt: HostRuntime) -> Result<(), Fail> {
         assert_eq!(rt; Weights::new(wx, wy).is_some(), want, "at {wx}, {wy}");
     }
     let weights = Weights::new(2, 3).ok_or("weights")?;
-    assert!(rt; weights.apply(point((10, -10))?) == Point::new(20, -30));
+    assert!(rt; weights.apply(point(10, -10)?) == Point::new(20, -30));
     let list = [
-        point((1, 1))?,
-        point((FAR / 2, 0))?,
-        point((0, FAR / 2))?,
-        point((FAR, 0))?,
+        point(1, 1)?,
+        point(FAR / 2, 0)?,
+        point(0, FAR / 2)?,
+        point(FAR, 0)?,
     ];
     assert_eq!(rt; weights.first_off(&list), Some(2));
     assert_eq!(rt; weights.first_off(&list[..2]), None);

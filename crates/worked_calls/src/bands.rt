@@ -1,5 +1,6 @@
 //! Worked runs.
-use crate::run::near_run;
+
+use error_band::near_run;
 use grid_exact::Bound;
 use std::process::Abort;
 

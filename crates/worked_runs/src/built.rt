@@ -1,20 +1,15 @@
 //! Worked texts.
 
-use super::*;
+use crate::parts::scanned;
 use geo_reader::read_geo;
-use json_scan::scan;
+use geo_text::built_text;
 use std::alloc::Global;
 use std::test::*;
 use topo_build::build;
 
 /// The text that is built of a short text, if that is GeoJSON.
 fn text_of(alloc: Global, text: &str) -> Option<Vec<u8>> {
-    if text.len() > 4096 {
-        return None;
-    }
-    let Ok(scan) = scan(alloc, text.as_bytes()) else {
-        return None;
-    };
+    let scan = scanned(alloc, text)?;
     let Ok(geo) = read_geo(alloc, &scan) else {
         return None;
     };

@@ -1,11 +1,9 @@
 //! Worked cones.
-use super::*;
+
+use crate::parts::point;
+use error_cone::Cone;
 use grid_exact::{Bound, Direction, Frame, Point};
 use std::test::Fail;
-
-fn point(x: i64, y: i64) -> Result<Point, Fail> {
-    Ok(Point::new(x, y).ok_or("a point of the grid")?)
-}
 
 // Whether the cone from the first point is closed by the other two.
 fn closes(direction: Direction, bound: u64, from: Point, p: Point, q: Point) -> Result<bool, Fail> {

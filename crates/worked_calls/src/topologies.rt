@@ -1,11 +1,11 @@
 //! Worked texts: the map and the place of `arcs`, and a fault of each kind with its place.
 
-use super::*;
 use arc_map::ArcMap;
 use grid_exact::Point;
 use json_scan::scan;
 use std::alloc::Global;
 use std::test::*;
+use topo_reader::{OffKind, ReadFault, ShapeKind, Span, Topology, What, read};
 
 /// Two provinces with towns, names, a `bbox` and a fractional transform.
 const PROVINCES: &str = r#"{"type":"Topology","bbox":[-180,-90,-179.712,-89.856],

@@ -1,8 +1,8 @@
 //! Worked texts: what is read of one, and a fault of each kind with its place.
 
-use super::*;
+use crate::parts::scanned;
+use geo_reader::{GeoFault, GeoKind, GeoMap, read_geo};
 use grid_exact::Point;
-use json_scan::scan;
 use std::alloc::Global;
 use std::test::*;
 use topo_reader::OffKind;
@@ -19,13 +19,8 @@ const FEATURES: &str = r#"{"type":"FeatureCollection","features":[
 
 /// What a short text holds, or its fault, if the text is JSON.
 fn reading(alloc: Global, text: &str) -> Option<Result<GeoMap, GeoFault>> {
-    if text.len() > 4096 {
-        return None;
-    }
-    match scan(alloc, text.as_bytes()) {
-        Ok(scan) => Some(read_geo(alloc, &scan)),
-        Err(_) => None,
-    }
+    let scan = scanned(alloc, text)?;
+    Some(read_geo(alloc, &scan))
 }
 
 /// The first fault of a text, if it has one.

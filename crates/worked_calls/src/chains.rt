@@ -1,6 +1,6 @@
 //! Worked sides.
-use crate::decide::side;
-use crate::sides::Side;
+
+use chain_side::{Side, side};
 use grid_exact::{Frame, Point, precedes};
 use std::process::Abort;
 

@@ -2,9 +2,9 @@
 ghost use Rattle.std.specs.Prelude.{◌≤◌, ◌^◌, IsTrue, length};
 ghost use Rattle.arc_map.specs.Map.{IsArc};
 
-use super::*;
 use arc_map::{ArcMap, ChainRef};
 use grid_exact::{Frame, Point};
+use monotone_split::split;
 use std::alloc::{AllocError, Global};
 use std::test::*;
 

@@ -1,19 +1,14 @@
 //! The text of a border, worked out by hand.
 
-use super::*;
-use json_scan::scan;
+use crate::parts::scanned;
+use dissolve::border;
 use std::alloc::Global;
 use std::test::*;
 use topo_reader::read;
 
 /// The text of the border of these polygons of a short topology, if it has them.
 fn dissolved(alloc: Global, text: &str, chosen: &[u32]) -> Option<Vec<u8>> {
-    if text.len() > 4096 {
-        return None;
-    }
-    let Ok(scan) = scan(alloc, text.as_bytes()) else {
-        return None;
-    };
+    let scan = scanned(alloc, text)?;
     let Ok(topology) = read(alloc, &scan) else {
         return None;
     };

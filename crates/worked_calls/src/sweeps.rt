@@ -1,38 +1,15 @@
-//! Maps of a few edges and a feature point: arranged, and not.
-ghost use Rattle.std.specs.Prelude.{◌≢◌};
+//! The same by a sweep over the edges.
 
-use super::*;
-use arc_map::{ArcMap, EdgeRef};
+use crate::arrangement::same;
+use crate::parts::point;
+use crate::two_edges;
+use arc_map::EdgeRef;
 use arrangement_check::CheckError;
-use grid_exact::Point;
-use std::alloc::{AllocError, Global};
+use plane_sweep::{Swept, check_by_sweep, sweep};
 use std::test::*;
 
-fn point((x, y): (i64, i64)) -> Result<Point, Fail> {
-    Ok(Point::new(x, y).ok_or("a point of the grid")?)
-}
-
-// The map of two arcs, each of one edge, and a feature point.
-fn map_of(
-    alloc: Global,
-    a: Point,
-    b: Point,
-    c: Point,
-    d: Point,
-    town: Point,
-) -> Result<ArcMap, AllocError>
-    requires first { a ≢ b }
-    requires second { c ≢ d }
-{
-    let first = vec![in alloc; a, b]?;
-    let second = vec![in alloc; c, d]?;
-    let arcs = vec![in alloc; first, second]?;
-    let points = vec![in alloc; town]?;
-    Ok(ArcMap::new(arcs, points, Vec::new(alloc), false))
-}
-
 #[test]
-fn maps_of_two_edges(rt: HostRuntime) -> Result<(), Fail> {
+fn maps_of_two_edges_are_swept(rt: HostRuntime) -> Result<(), Fail> {
     let first = EdgeRef { arc: 0, at: 0 };
     let second = EdgeRef { arc: 1, at: 0 };
     for (c, d, town, want) in [
@@ -68,11 +45,12 @@ fn maps_of_two_edges(rt: HostRuntime) -> Result<(), Fail> {
             Some(CheckError::PointOnArc(0, second)),
         ),
     ] {
-        let (a, b, c, d) = (point((0, 0))?, point((4, 0))?, point(c)?, point(d)?);
-        let town = point(town)?;
+        let (a, b) = (point(0, 0)?, point(4, 0)?);
+        let (c, d) = (point(c.0, c.1)?, point(d.0, d.1)?);
+        let town = point(town.0, town.1)?;
         assert!(rt; a != b);
         assert!(rt; c != d);
-        let map = map_of(rt.alloc(), a, b, c, d, town)?;
+        let map = two_edges(rt.alloc(), a, b, c, d, town)?;
         match (sweep(rt.alloc(), &map), &want) {
             (Ok(Swept::Meets(e, f)), Some(CheckError::Edges(_, _))) => {
                 assert_eq!(rt; (e, f), (first, second));
@@ -87,12 +65,4 @@ fn maps_of_two_edges(rt: HostRuntime) -> Result<(), Fail> {
         }
     }
     Ok(())
-}
-
-fn same(a: &CheckError, b: &CheckError) -> bool {
-    match (a, b) {
-        (CheckError::Edges(e, f), CheckError::Edges(g, h)) => e == g && f == h,
-        (CheckError::PointOnArc(p, e), CheckError::PointOnArc(q, f)) => p == q && e == f,
-        _ => false,
-    }
 }

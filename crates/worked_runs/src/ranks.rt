@@ -1,18 +1,15 @@
 //! The text of the ranks of maps, worked out by hand.
 
-use super::*;
+use crate::parts::scanned;
 use arrangement_check::check;
 use grid_exact::Bound;
-use json_scan::scan;
+use pyramid::rank_all;
 use std::alloc::Global;
 use std::test::*;
 use topo_reader::read;
 
 /// The text of the ranks of a short topology by the levels of these bounds, if it has them.
 fn ranked(alloc: Global, text: &str, units: &[u64]) -> Option<Vec<u8>> {
-    if text.len() > 4096 {
-        return None;
-    }
     let mut bounds = Vec::new(alloc);
     for e in units {
         bounds.push(Bound::new(*e)?).ok()?;
@@ -20,9 +17,7 @@ fn ranked(alloc: Global, text: &str, units: &[u64]) -> Option<Vec<u8>> {
     if bounds.len() > 16 {
         return None;
     }
-    let Ok(scan) = scan(alloc, text.as_bytes()) else {
-        return None;
-    };
+    let scan = scanned(alloc, text)?;
     let Ok(topology) = read(alloc, &scan) else {
         return None;
     };
