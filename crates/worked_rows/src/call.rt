@@ -1,24 +1,9 @@
 //! A run of the top call over memory.
 
-use crate::error::RowsError;
-use outside_io::{MemInputs, MemSink, NamedText};
+use outside_io::MemSink;
+use row_reader::{Call, Difference, Expected, RowsError, add_text};
 use std::alloc::Global;
 use top_call::{Status, run};
-
-/// How many bytes a call of an input or a sink moves at most, where nothing else is said.
-pub const CHUNK: usize = 1048576;
-
-/// How many bytes a sink has room for.
-pub const ROOM: usize = 16777216;
-
-/// What the top call is run on.
-#[derive(Drop)]
-pub struct Call {
-    pub words: Vec<String>,
-    pub inputs: MemInputs,
-    pub out: MemSink,
-    pub note: MemSink,
-}
 
 /// What a run left.
 #[derive(Drop)]
@@ -28,28 +13,16 @@ pub struct Ended {
     note: MemSink,
 }
 
-impl Call {
-    /// The words of the line over the texts, with calls none of which fails.
-    pub fn new(alloc: Global, line: &str, texts: Vec<NamedText>) -> Result<Call, RowsError> {
-        Ok(Call {
-            words: words_of(alloc, line)?,
-            inputs: MemInputs::new(texts, CHUNK, Vec::new(alloc)),
-            out: MemSink::new(alloc, ROOM, CHUNK, Vec::new(alloc))?,
-            note: MemSink::new(alloc, ROOM, CHUNK, Vec::new(alloc))?,
-        })
-    }
-
-    /// Runs the top call.
-    pub fn ended(self, alloc: Global) -> Ended {
-        let Call {
-            words,
-            mut inputs,
-            mut out,
-            mut note,
-        } = self;
-        let status = run(alloc, &words, &mut inputs, &mut out, &mut note);
-        Ended { status, out, note }
-    }
+/// Runs the top call.
+pub fn ended(alloc: Global, call: Call) -> Ended {
+    let Call {
+        words,
+        mut inputs,
+        mut out,
+        mut note,
+    } = call;
+    let status = run(alloc, &words, &mut inputs, &mut out, &mut note);
+    Ended { status, out, note }
 }
 
 impl Ended {
@@ -72,32 +45,16 @@ impl Ended {
     pub fn is_done(&self) -> bool {
         self.status.code() == Status::Done.code()
     }
-}
 
-// The words between the spaces of a line.
-fn words_of(alloc: Global, line: &str) -> Result<Vec<String>, RowsError> {
-    let mut words = Vec::new(alloc);
-    for word in line.split(' ') {
-        words.push(String::from_str(alloc, word)?)?;
+    /// What differs first from what is expected, or None where the run ended so.
+    pub fn difference(&self, expected: &Expected<'_>) -> Option<Difference> {
+        expected.difference(self.status.code(), self.out(), self.note())
     }
-    Ok(words)
-}
-
-/// Adds a text under a name.
-pub fn add_text(
-    alloc: Global,
-    texts: &mut Vec<NamedText>,
-    name: &str,
-    text: &[u8],
-) -> Result<(), RowsError> {
-    let name = String::from_str(alloc, name)?;
-    texts.push(NamedText::new(name, text.to_vec(alloc)?))?;
-    Ok(())
 }
 
 /// What the words of the line leave, run over one text.
 pub fn ended_on(alloc: Global, line: &str, name: &str, text: &[u8]) -> Result<Ended, RowsError> {
     let mut texts = Vec::new(alloc);
     add_text(alloc, &mut texts, name, text)?;
-    Ok(Call::new(alloc, line, texts)?.ended(alloc))
+    Ok(ended(alloc, Call::new(alloc, line, texts)?))
 }

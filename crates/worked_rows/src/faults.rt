@@ -1,8 +1,8 @@
 //! Runs on torn texts, and runs in which one call fails: each call in turn.
 
-use crate::call::{CHUNK, Call, Ended, ROOM, add_text, ended_on};
-use crate::error::RowsError;
+use crate::call::{Ended, ended, ended_on};
 use outside_io::{MemInputs, MemSink};
+use row_reader::{Call, ROOM, RowsError, add_text};
 use std::alloc::Global;
 
 // The words of each run, and the text that they name.
@@ -41,7 +41,7 @@ fn ended_with_failing_read(alloc: Global, text: &[u8], failing: u64) -> Result<E
     add_text(alloc, &mut texts, FILE, text)?;
     let mut call = Call::new(alloc, LINE, Vec::new(alloc))?;
     call.inputs = MemInputs::new(texts, SMALL, [failing].to_vec(alloc)?);
-    Ok(call.ended(alloc))
+    Ok(ended(alloc, call))
 }
 
 // What a run over the text leaves whose write `failing` to the output fails.
@@ -50,7 +50,7 @@ fn ended_with_failing_write(alloc: Global, text: &[u8], failing: u64) -> Result<
     add_text(alloc, &mut texts, FILE, text)?;
     let mut call = Call::new(alloc, LINE, texts)?;
     call.out = MemSink::new(alloc, ROOM, SMALL, [failing].to_vec(alloc)?)?;
-    Ok(call.ended(alloc))
+    Ok(ended(alloc, call))
 }
 
 /// How many calls of the inputs a run over the text makes, where each call that fails ends the run

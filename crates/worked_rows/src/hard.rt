@@ -2,7 +2,7 @@
 ghost use Rattle.std.specs.Prelude.{◌≤ℤ◌, ◌+ℤ◌, pos};
 
 use crate::call::ended_on;
-use crate::error::RowsError;
+use row_reader::RowsError;
 use std::alloc::{AllocError, Global};
 use std::fmt::Write;
 

@@ -4,17 +4,14 @@
 #![tactic(auto)]
 
 mod call;
-mod error;
 mod faults;
 mod hard;
-mod row;
-mod texts;
 mod timed;
 
-use error::RowsError;
+use call::ended;
 use faults::{every_failing_read, every_failing_write, every_prefix};
 use hard::{Shape, is_hard_thinned};
-use row::{Difference, Row, find, list_of, read, text_in};
+use row_reader::{Difference, Row, RowsError, find, list_of, member, read, text_in};
 use serde_json::Value;
 use std::fs;
 use std::process::ExitCode;
@@ -34,7 +31,7 @@ fn run_row<R: Print + Files + AllocGlobal>(rt: &R, value: &Value) -> Result<bool
         call,
         expected,
     } = read(rt, value)?;
-    match expected.difference(&call.ended(rt.alloc())) {
+    match ended(rt.alloc(), call).difference(&expected) {
         None => {
             println!(rt; "ok: {name}")?;
             Ok(true)
@@ -100,7 +97,7 @@ fn print_line<R: Print>(rt: &R, name: &str, agrees: bool) -> Result<bool, RowsEr
 // Runs what is made from the row of two provinces, and prints the lines. Whether all agree.
 fn run_provinces<R: Print + AllocGlobal>(rt: &R, provinces: &Value) -> Result<bool, RowsError> {
     let alloc = rt.alloc();
-    let text = text_in(row::member(provinces, "texts")?, "map.json")?;
+    let text = text_in(member(provinces, "texts")?, "map.json")?;
     let out = text_in(provinces, "out")?;
     let torn = print_count(rt, "torn provinces", every_prefix(alloc, text)?, "prefixes")?;
     let reads = every_failing_read(alloc, text, out)?;

@@ -1,8 +1,8 @@
 //! Runs on maps that are made: large ones, which are to end in time, and one that is checked in two
 //! ways.
 
-use crate::call::{Call, Ended, add_text, ended_on};
-use crate::error::RowsError;
+use crate::call::{Ended, ended, ended_on};
+use row_reader::{Call, RowsError, add_text};
 use std::alloc::{AllocError, Global};
 use std::fmt::Write;
 
@@ -16,7 +16,7 @@ const LAST: u32 = 1023;
 
 // What the words of the line leave, run over no text.
 fn made(alloc: Global, line: &str) -> Result<Ended, RowsError> {
-    Ok(Call::new(alloc, line, Vec::new(alloc))?.ended(alloc))
+    Ok(ended(alloc, Call::new(alloc, line, Vec::new(alloc))?))
 }
 
 /// Whether the map that the words make is thinned.
@@ -32,7 +32,8 @@ fn checked(alloc: Global, map: &[u8], out: &[u8], cert: &[u8]) -> Result<Ended, 
     add_text(alloc, &mut texts, "map.json", map)?;
     add_text(alloc, &mut texts, "out.json", out)?;
     add_text(alloc, &mut texts, "cert.json", cert)?;
-    Ok(Call::new(alloc, "check 3 map.json out.json cert.json", texts)?.ended(alloc))
+    let call = Call::new(alloc, "check 3 map.json out.json cert.json", texts)?;
+    Ok(ended(alloc, call))
 }
 
 /// Whether the check of a thinned map answers yes, and that of the map itself with the same

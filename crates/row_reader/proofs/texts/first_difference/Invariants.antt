@@ -1,5 +1,5 @@
 use Rattle.std.proofs.Common.{◌≡◌, take}
-use Rattle.worked_rows.proofs.texts.first_difference.Given as goal
+use Rattle.row_reader.proofs.texts.first_difference.Given as goal
 
 abbrev pub invariant-loop-at : goal.invariant-loop-at
 invariant-loop-at l = take l.at l.expected ≡ take l.at l.got

@@ -1,7 +1,7 @@
 //! A worked row: what the top call is run on, and what is expected of it.
 ghost use Rattle.std.specs.Prelude.{◌≤◌, IfOk};
 
-use crate::call::{CHUNK, Call, Ended, ROOM};
+use crate::call::{CHUNK, Call, ROOM};
 use crate::error::RowsError;
 use crate::texts::{first_difference, push_piece};
 use outside_io::{MemInputs, MemSink, NamedText};
@@ -38,16 +38,16 @@ pub enum Difference {
 }
 
 impl Expected<'_> {
-    /// What differs first, or None where the run ended as expected.
-    pub fn difference(&self, ended: &Ended) -> Option<Difference> {
-        let code = ended.status.code();
+    /// What differs first from a run that ended with this status code, output and message, or None
+    /// where it ended as expected.
+    pub fn difference(&self, code: u8, out: &[u8], note: &[u8]) -> Option<Difference> {
         if u64::from(code) != self.code {
             return Some(Difference::Status(code));
         }
-        if let Some(at) = first_difference(self.out.as_bytes(), ended.out()) {
+        if let Some(at) = first_difference(self.out.as_bytes(), out) {
             return Some(Difference::Out(at));
         }
-        match first_difference(self.note.as_bytes(), ended.note()) {
+        match first_difference(self.note.as_bytes(), note) {
             Some(at) => Some(Difference::Note(at)),
             None => None,
         }

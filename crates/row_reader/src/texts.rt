@@ -1,7 +1,7 @@
 //! Texts of bytes: how they are made of pieces, and where two of them differ.
 ghost use Rattle.std.specs.Prelude.{◌≡◌, ◌++◌, ◌↔◌, OnOk, IfSome, IsNone};
 ghost use Rattle.std.specs.List.{repeat};
-ghost use Rattle.worked_rows.specs.Difference.{IsFirstDifference};
+ghost use Rattle.row_reader.specs.Difference.{IsFirstDifference};
 
 use std::alloc::{AllocError, Global};
 
