@@ -14,7 +14,7 @@ pub struct Ended {
 }
 
 /// Runs the top call.
-pub fn ended(alloc: Global, call: Call) -> Ended {
+pub fn run_call(alloc: Global, call: Call) -> Ended {
     let Call {
         words,
         mut inputs,
@@ -56,5 +56,5 @@ impl Ended {
 pub fn ended_on(alloc: Global, line: &str, name: &str, text: &[u8]) -> Result<Ended, RowsError> {
     let mut texts = Vec::new(alloc);
     add_text(alloc, &mut texts, name, text)?;
-    Ok(ended(alloc, Call::new(alloc, line, texts)?))
+    Ok(run_call(alloc, Call::new(alloc, line, texts)?))
 }

@@ -1,6 +1,6 @@
 //! Runs on torn texts, and runs in which one call fails: each call in turn.
 
-use crate::call::{Ended, ended, ended_on};
+use crate::call::{Ended, ended_on, run_call};
 use outside_io::{MemInputs, MemSink};
 use row_reader::{Call, ROOM, RowsError, add_text};
 use std::alloc::Global;
@@ -41,7 +41,7 @@ fn ended_with_failing_read(alloc: Global, text: &[u8], failing: u64) -> Result<E
     add_text(alloc, &mut texts, FILE, text)?;
     let mut call = Call::new(alloc, LINE, Vec::new(alloc))?;
     call.inputs = MemInputs::new(texts, SMALL, [failing].to_vec(alloc)?);
-    Ok(ended(alloc, call))
+    Ok(run_call(alloc, call))
 }
 
 // What a run over the text leaves whose write `failing` to the output fails.
@@ -50,7 +50,7 @@ fn ended_with_failing_write(alloc: Global, text: &[u8], failing: u64) -> Result<
     add_text(alloc, &mut texts, FILE, text)?;
     let mut call = Call::new(alloc, LINE, texts)?;
     call.out = MemSink::new(alloc, ROOM, SMALL, [failing].to_vec(alloc)?)?;
-    Ok(ended(alloc, call))
+    Ok(run_call(alloc, call))
 }
 
 /// How many calls of the inputs a run over the text makes, where each call that fails ends the run

@@ -8,7 +8,7 @@ mod faults;
 mod hard;
 mod timed;
 
-use call::ended;
+use call::run_call;
 use faults::{every_failing_read, every_failing_write, every_prefix};
 use hard::{Shape, is_hard_thinned};
 use row_reader::{Difference, Row, RowsError, find, list_of, member, read, text_in};
@@ -31,7 +31,7 @@ fn run_row<R: Print + Files + AllocGlobal>(rt: &R, value: &Value) -> Result<bool
         call,
         expected,
     } = read(rt, value)?;
-    match ended(rt.alloc(), call).difference(&expected) {
+    match run_call(rt.alloc(), call).difference(&expected) {
         None => {
             println!(rt; "ok: {name}")?;
             Ok(true)

@@ -1,7 +1,7 @@
 //! Runs on maps that are made: large ones, which are to end in time, and one that is checked in two
 //! ways.
 
-use crate::call::{Ended, ended, ended_on};
+use crate::call::{Ended, ended_on, run_call};
 use row_reader::{Call, RowsError, add_text};
 use std::alloc::{AllocError, Global};
 use std::fmt::Write;
@@ -16,7 +16,7 @@ const LAST: u32 = 1023;
 
 // What the words of the line leave, run over no text.
 fn made(alloc: Global, line: &str) -> Result<Ended, RowsError> {
-    Ok(ended(alloc, Call::new(alloc, line, Vec::new(alloc))?))
+    Ok(run_call(alloc, Call::new(alloc, line, Vec::new(alloc))?))
 }
 
 /// Whether the map that the words make is thinned.
@@ -33,7 +33,7 @@ fn checked(alloc: Global, map: &[u8], out: &[u8], cert: &[u8]) -> Result<Ended, 
     add_text(alloc, &mut texts, "out.json", out)?;
     add_text(alloc, &mut texts, "cert.json", cert)?;
     let call = Call::new(alloc, "check 3 map.json out.json cert.json", texts)?;
-    Ok(ended(alloc, call))
+    Ok(run_call(alloc, call))
 }
 
 /// Whether the check of a thinned map answers yes, and that of the map itself with the same
