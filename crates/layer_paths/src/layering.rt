@@ -6,6 +6,7 @@ ghost use Rattle.std.specs.Prelude.{
   ◌≤◌,
   IfOk,
   length,
+  replicate,
   take,
   drop,
   slice_index,
@@ -52,7 +53,14 @@ impl Model for Layering {
 impl Layering {
     /// The vertex 0 alone, with room for the vertices of any chain. The only error is want of
     /// memory.
-    pub fn new(alloc: Global) -> Result<Layering, NoMemory> {
+    pub fn new(alloc: Global) -> Result<Layering, NoMemory>
+        ensures { IfOk result (λ lay. lay ≡ record {
+          last = 0;
+          front = 0;
+          layers = replicate 1024 0;
+          nexts = replicate 1024 0;
+        }) }
+    {
         let layers = no_layers(alloc)?;
         let nexts = vertices(alloc, 0)?;
         let heads = vertices(alloc, 0)?;
