@@ -1,5 +1,5 @@
 -- The chains of a map as read.
-use Rattle.std.proofs.Common.{◌≡◌, ◌∙◌, ◌+◌, ◌-◌, ◌<◌, ℕ, List, length, get_or, map, sym, ap, subst, refl, arith}
+use Rattle.std.proofs.Common.{◌≡◌, ◌∙◌, ◌+◌, ◌-◌, ◌<◌, ℕ, length, get_or, sym, ap, subst, refl, arith}
 use Rattle.std.specs.Prelude.{All}
 use Rattle.std.specs.List.{range_with_len}
 use Rattle.std.proofs.lemmas.List.{get_or-map, length-map}
@@ -7,16 +7,11 @@ use Rattle.std.proofs.lemmas.List.FromFn.{get_or-map-range_with_len, length-rang
 use Rattle.std.proofs.lemmas.List.Elements.{All-cons, All-from_get_or}
 use Rattle.grid_exact.specs.Geometry.{Place}
 use Rattle.arc_map.specs.Arranged.{arc_at, nowhere, position_at}
-use Rattle.arc_map.specs.Chains.{chain_at, chain_places, no_chain}
+use Rattle.arc_map.specs.Chains.{chain_places}
 use Rattle.arc_map.specs.Map.{Map}
 use Rattle.arc_map.specs.Vertices.{places}
 use Rattle.arc_map.specs.Work.{LiesInArc, chain_in, vertex_in}
 use Rattle.arc_map.specs.declared.refs.ChainRef.{ChainRef}
-use Rattle.map_index.specs.MapIndex.{no_ref}
-
-pub chain_of_map : (m : Map) (refs : List ChainRef) (k : ℕ) → k < length refs
-    → chain_at (map (chain_in m) refs) k ≡ chain_in m (get_or refs k no_ref)
-chain_of_map m refs k known = get_or-map (chain_in m) refs k no_ref no_chain known
 
 rest_count : (m : Map) (r : ChainRef) → length (chain_in m r).rest ≡ r.to - r.«from»
 rest_count m r = length-map (range_with_len (r.«from» + 1) (r.to - r.«from»)) (vertex_in m r.arc)

@@ -111,17 +111,6 @@ consistent_out frame wx wy v w skipped p e one_x one_y bound monotone near out =
     let even = out_of_reach_is_even frame wx wy v w skipped p e one_x one_y bound monotone near out in
     SameSide (λ on. last_edge (IsOffSegment p) v w v skipped even.0 (on_turned v w p on)) even.1
 
--- the law for a run by itself
-pub only_reach_of_run : (frame : Frame) (wx wy : ℤ) (v w : Place) (skipped : List Place) (p : Place) (e : ℤ) → pos 1 ≤ℤ wx → pos 1 ≤ℤ wy
-    → pos 0 ≤ℤ e
-    → IsMonotone frame v (skipped ++ w ∷ []) → All (λ q. IsNear wx wy v w q e) skipped
-    → (IsInReachBy wx wy e p v (skipped ++ w ∷ []) → IsConsistent v w skipped p) → IsConsistent v w skipped p
-only_reach_of_run frame wx wy v w skipped p e one_x one_y bound monotone near reached =
-    elim (in_reach_or_out wx wy e p v (skipped ++ w ∷ [])) [
-      | inl h ↦ reached h
-      | inr h ↦ consistent_out frame wx wy v w skipped p e one_x one_y bound monotone near h
-    ]
-
 pub only_reach_counts : OnlyReachCounts
 only_reach_counts frame wx wy v ws e i j none p one_x one_y bound monotone order within near reached =
     elim (in_reach_or_out wx wy e p v ws) [

@@ -10,7 +10,6 @@ use Rattle.std.proofs.lemmas.List.Sorted.{IsPermutation-cons, IsPermutation-midd
 use Rattle.std.proofs.lemmas.List.Sorted.{length_permutation}
 use Rattle.grid_exact.specs.Walks.{differ}
 use Rattle.sweep_index.proofs.Distinct.{pairs_head, pairs_tail}
-use Rattle.sweep_index.proofs.Holding.{filter_holds}
 use Rattle.face_parity.specs.Parities.{pass_oddly}
 use Rattle.face_parity.proofs.Same.{in-cases, in-later, in-none}
 use Rattle.face_parity.proofs.Sums.{pass-permutation}
@@ -73,9 +72,6 @@ pub still-among : (k j : ℕ) (xs : List ℕ) → Contains (without k xs) j → 
 still-among k j xs held =
     let rest = filter_from (λ i. not (i == k)) xs j held in
     (rest.0, λ same. true≢false (sym (eq-eqb j k same) ∙ not-true (j == k) rest.1))
-
-pub among-still : (k j : ℕ) (xs : List ℕ) → Contains xs j → j ≢ k → Contains (without k xs) j
-among-still k j xs held apart = filter_holds (λ i. not (i == k)) xs j held (ap not (ne_eqb j k apart))
 
 pub fewer : (k : ℕ) (xs : List ℕ) → AreOnce xs → Contains xs k → length (without k xs) < length xs
 fewer k xs once held = let long = length_permutation xs (k ∷ without k xs) (taken-out k xs once held) in omega (arith, long)

@@ -26,13 +26,6 @@ pub record AreTurned (m : Map) (polygons left : List ℕ) (marks : List Bool) : 
   pub odd : (k : ℕ) → differ (get_or marks k false) (pass_oddly (λ arc. arc == k) (named_arcs m left))
       ≡ pass_oddly (λ arc. arc == k) (named_arcs m polygons)
 
-pub turned-none : (m : Map) (polygons : List ℕ) (marks : List Bool) (n : ℕ) → n ≡ length m.arcs → marks ≡ replicate n false
-    → length marks ≡ n → AreTurned m polygons polygons marks
-turned-none m polygons marks n size is long = record {
-  count = long ∙ size;
-  odd = λ k. ap (λ b. differ b (pass_oddly (λ arc. arc == k) (named_arcs m polygons))) (ap (λ xs. get_or xs k false) is ∙ none-turned n k);
-}
-
 pub turned-more : (m : Map) (polygons : List ℕ) (i : ℕ) (arcs : List ℕ) (marks new : List Bool) → i < length polygons
     → slice_get m.polygons (get_or polygons i 0) ≡ Some arcs → length new ≡ length marks
     → ((k : ℕ) → get_or new k false ≡ differ (get_or marks k false) (pass_oddly (λ arc. arc == k) arcs))

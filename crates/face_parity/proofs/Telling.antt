@@ -5,7 +5,7 @@ use Rattle.std.specs.Prelude.{◌&&◌, filter, nat_le, slice_index}
 use Rattle.std.specs.List.Sorted.{IsPermutation}
 use Rattle.std.proofs.lemmas.Bool.{and_from, and_left, and_parts, and_right, cases_Bool, cases_lt, eq-eqb, le-leb, leb-true, ne_eqb}
 use Rattle.std.proofs.lemmas.List.{append-nil, map-append}
-use Rattle.std.proofs.lemmas.List.Elements.{All-append, All-head, All-map, All-nil, All-tail, All-weaker, Contains-get_or, filter-append}
+use Rattle.std.proofs.lemmas.List.Elements.{All-append, All-head, All-map, All-tail, All-weaker, Contains-get_or, filter-append}
 use Rattle.std.proofs.lemmas.List.Sorted.{All-permutation}
 use Rattle.grid_exact.specs.Geometry.{Place, IsOnGrid}
 use Rattle.grid_exact.specs.Walks.{differ}
@@ -159,9 +159,6 @@ pub record IsTelling (m : Map) (k : ℕ) (ns : List Naming) (rest refs : List �
 pub without_any : (xs : List ℕ) → length xs ≡ 0 → xs ≡ []
 without_any [] none = refl
 without_any (x ∷ xs) none = absurd (omega (arith, none))
-
-pub namings-none : (m : Map) → AreNamingsTo m 0 []
-namings-none m = record { below = All-nil (λ n. n.polygon < 0); told = λ polygon none. absurd (omega (arith, none)) }
 
 pub telling-first : (m : Map) (k : ℕ) (ns : List Naming) (rest refs : List ℕ) → refs ≡ rest → AreNamingsTo m k ns
     → IsTelling m k ns rest refs

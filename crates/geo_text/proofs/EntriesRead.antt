@@ -136,9 +136,6 @@ no_type-passed other R NoEntries not_type is = absurd is
 no_type-passed other R (NextEntry e word t others) not_type is = named-past (codes "type") e word t others
     (ap (λ (w : List ℕ). bytes_eq w (codes "type")) is.0 ∙ not_type) ∙ is.2
 
-pub no_type-end : (members : Entries) → IsEnd members → NoType members
-no_type-end members is = end-named (codes "type") members is
-
 -- ---- an entry
 
 -- where the value with this name stands once, a geometry of the kind adds these

@@ -15,4 +15,3 @@ pub mod ReadsPlaces
 pub mod ReadsSides
 pub mod ReadsTexts
 pub mod ReadsWhole
-pub mod ReadsCalls

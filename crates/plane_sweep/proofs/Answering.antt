@@ -1,13 +1,12 @@
 -- What a walk over the pairs of edges, and over the edges near a feature point, tells at its end.
-use Rattle.std.proofs.Common.{◌≡◌, ◌+◌, ◌<◌, inl, inr, ℕ, List, [], ◌∷◌, arith, refl, sym, subst, get_or, length}
+use Rattle.std.proofs.Common.{◌≡◌, ℕ, List, [], ◌∷◌, refl, sym, subst, get_or}
 use Rattle.std.specs.Prelude.{All, Option, Some, None, IfSome, IfNone, slice_get}
-use Rattle.std.proofs.lemmas.Bool.{cases_lt}
 use Rattle.std.proofs.lemmas.Option.{get_or_from_slice_get}
 use Rattle.std.proofs.lemmas.List.Elements.{All-rest, All-weaker}
 use Rattle.grid_exact.specs.Geometry.{Place}
 use Rattle.grid_exact.proofs.Segments.{on_segment_by_signs}
 use Rattle.arc_map.specs.Map.{Map}
-use Rattle.arc_map.specs.Arranged.{HasNoClash, IsEarlier, IsLeastPoint, IsMapEdge, PointIsOn, edge_end, edge_start, nowhere}
+use Rattle.arc_map.specs.Arranged.{HasNoClash, IsEarlier, IsMapEdge, PointIsOn, edge_end, edge_start, nowhere}
 use Rattle.arc_map.specs.declared.refs.EdgeRef.{EdgeRef}
 use Rattle.sweep_index.specs.Pairs.{ArePairsOf}
 use Rattle.sweep_index.specs.Slabs.{AreEdgesAt, IsEdgeAt}
@@ -63,25 +62,6 @@ pub on_none_is : (m : Map) (k : ℕ) (least : Option EdgeRef) (all left : List E
 on_none_is m k (Some e) all left edges none walked = tt
 on_none_is m k None all left edges none walked = λ e edge on. walk_end (PointIsOn m k) (IsNotBelow IsEarlier None) all left none walked e
     (edges.all e (at_point m k e edge on)) on
-
--- ---- the feature points in order
-
-pub more_on_none : (m : Map) (k : ℕ) → ((l : ℕ) → l < k → IsOnNone m l) → IsOnNone m k → (l : ℕ) → l < k + 1 → IsOnNone m l
-more_on_none m k before here l below = elim (cases_lt l k) [
-  | inl less ↦ before l less
-  | inr least ↦ let same : k ≡ l = omega (arith, least, below) in subst (λ i. IsOnNone m i) same here
-]
-
-pub least_point : (m : Map) (k : ℕ) (e : EdgeRef) → HasNoClash m → k < length m.points → ((l : ℕ) → l < k → IsOnNone m l) → IsLeastOn m k e
-    → IsLeastPoint m k e
-least_point m k e no_clash point before least = record {
-  no_clash = no_clash;
-  point = point;
-  edge = least.edge;
-  on = least.on;
-  no_point_before = λ l g less. before l less g;
-  no_edge_before = least.least;
-}
 
 -- ---- the walk over the edges at the x of a feature point
 

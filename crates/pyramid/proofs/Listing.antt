@@ -143,9 +143,6 @@ within-read old ranks places arc d p ps ranks_in places_in stays is_p same withi
     subst (λ (qs : List ℕ). All (λ at. at < length (get_or ranks arc d).items) qs) (list-at places arc p places_in is_p ∙ sym same)
     (subst (λ (rs : List ℕ). All (λ at. at < length rs) (list_of places arc)) (sym stays ∙ list-or ranks arc d ranks_in) within)
 
-pub raised-none : (ranks : List ℕ) (rank : ℕ) → AreRaised ranks ranks [] rank
-raised-none ranks rank = record { long = refl; raised = λ at held. let none = held.1 in absurd (omega arith); other = λ at free. refl }
-
 pub raised-more : (before now after places : List ℕ) (rank k at : ℕ) → k < length places → at ≡ slice_index places k → at < length now
     → after ≡ set now at rank → AreRaised before now (take k places) rank → AreRaised before after (take (k + 1) places) rank
 raised-more before now after places rank k at below here under put so_far =

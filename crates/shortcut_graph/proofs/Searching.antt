@@ -116,10 +116,3 @@ first_alike P Q m i next layers there back first =
       on = there next first.after first.within first.on;
       first = λ j past down pair. first.first j past down (back j past down pair);
     }
-
--- the first step leads no higher than the vertex after i
-pub no_higher : (P : ℕ → ℕ → Type 0) (m i next front : ℕ) (layers : List ℕ) → front ≡ i + 1 → i < m → P i (i + 1)
-    → IsFirstStep P m i next layers → slice_index layers next ≤ slice_index layers front
-no_higher P m i next front layers at within neighbours first =
-    let value : slice_index layers front ≡ slice_index layers (i + 1) = ap (slice_index layers) at in
-    elim (first.first (i + 1) (omega arith) (omega arith) neighbours) [ inl less ↦ omega arith | inr same ↦ let e = same.0 in omega arith ]

@@ -46,13 +46,6 @@ keeps_none b i j a v ordered within empty s above below hand p stands =
     absurd (none_stands b (2 * i) (2 * j) (row_of s hand) p ordered (row_above i s hand above) (row_below s j hand below) within empty
     stands)
 
-pub keeps_empty : (b : Flanks) (edge : ℕ) (a v : Place) → AreOrdered b.starts → 2 * edge + 2 < length b.starts
-    → slice_index b.starts (2 * edge) ≡ slice_index b.starts (2 * edge + 2) → KeepsSides b edge a v
-keeps_empty b edge a v ordered within empty =
-    let two : 2 * edge + 2 ≡ 2 * (edge + 1) = omega arith in
-    let value = ap (slice_index b.starts) two in
-    keeps_none b edge (edge + 1) a v ordered (omega arith) (omega arith) edge (omega arith) (omega arith)
-
 pub keeps_both : (b : Flanks) (edge : ℕ) (a v : Place) → ((p : Place) → StandsInRow b (2 * edge) p → IsOnSide Left a v p)
     → ((p : Place) → StandsInRow b (2 * edge + 1) p → IsOnSide Right a v p) → KeepsSides b edge a v
 keeps_both b edge a v left right Left p stands = left p stands

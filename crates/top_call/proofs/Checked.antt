@@ -1,7 +1,7 @@
 -- What the judge says of a certificate is said of the text that was loaded.
-use Rattle.std.proofs.Common.{◌≡◌, ◌∙◌, ℕ, ℤ, List, All, ap, refl, sym, subst}
+use Rattle.std.proofs.Common.{◌≡◌, ◌∙◌, ℕ, ℤ, List, ap, refl, subst}
 use Rattle.std.specs.Prelude.{◌≢◌}
-use Rattle.grid_exact.specs.Weights.{Scales, StaysOnGrid}
+use Rattle.grid_exact.specs.Weights.{Scales}
 use Rattle.arc_map.specs.Map.{Map}
 use Rattle.arc_map.specs.Arcs.{map_now}
 use Rattle.arc_map.specs.Chains.{Chain}
@@ -19,14 +19,6 @@ use Rattle.top_call.specs.declared.forms.Options.{Options}
 use Rattle.top_call.specs.Maps.{IsLoaded, scales_of}
 use Rattle.top_call.specs.Reading.{Read}
 use Rattle.top_call.specs.Answers.{IsJudgedFor, IsChecked, NotCertificate, IsRefuted, IsCompared, IsComparison, text_with, version_of}
-
--- the weights take no position of the map at work off the grid
-pub still_on_grid : (options : Options) (text : List ℕ) (t : TopologyRead) (held : List ℕ) (s : Judging) (w : Scales)
-    → IsLoaded options text t held → IsFreshFor (record { map = t.map; held = held }) s → w ≡ scales_of options.weights
-    → All (All (StaysOnGrid w)) s.work.read.arcs
-still_on_grid options text t held s w loaded fresh is =
-    let stays = subst (λ (v : Scales). All (All (StaysOnGrid v)) t.map.arcs) (sym is) loaded.weights in
-    subst (λ (m : Map). All (All (StaysOnGrid w)) m.arcs) (sym fresh.map_read) stays
 
 -- a fresh state holds the map as read
 fresh_work : (p : Holding) (s : Judging) → IsFreshFor p s → s.work ≡ work_of p.map s.work.refs

@@ -3,7 +3,7 @@ use Rattle.std.proofs.Common.{◌≡◌, ℕ, ◌<◌, ◌≤◌, List, [], ◌�
 use Rattle.std.specs.Prelude.{◌⊎◌}
 use Rattle.std.proofs.Common.{inl, inr}
 use Rattle.top_call.specs.declared.words.Task.{Task}
-use Rattle.top_call.specs.Words.{demo_form, dissolve_form, pyramid_form, weighed_form}
+use Rattle.top_call.specs.Words.{demo_form, weighed_form}
 
 pub demo_other : (words : List (List ℕ)) → (length words < 4) ⊎ (5 ≤ length words) → None ≡ demo_form words
 demo_other [] h = refl
@@ -17,15 +17,3 @@ pub weighed_other : (task : Task) (hold : Bool) (words : List (List ℕ)) → le
 weighed_other task hold [] few = refl
 weighed_other task hold (a ∷ []) few = refl
 weighed_other task hold (a ∷ b ∷ words) few = absurd (omega arith)
-
-pub dissolve_other : (words : List (List ℕ)) → (length words < 2) ⊎ (3 ≤ length words) → None ≡ dissolve_form words
-dissolve_other [] h = refl
-dissolve_other (a ∷ []) h = refl
-dissolve_other (a ∷ b ∷ []) h = absurd (elim h [ inl few ↦ omega arith | inr many ↦ omega arith ])
-dissolve_other (a ∷ b ∷ c ∷ words) h = refl
-
-pub pyramid_other : (words : List (List ℕ)) → (length words < 2) ⊎ (3 ≤ length words) → None ≡ pyramid_form words
-pyramid_other [] h = refl
-pyramid_other (a ∷ []) h = refl
-pyramid_other (a ∷ b ∷ []) h = absurd (elim h [ inl few ↦ omega arith | inr many ↦ omega arith ])
-pyramid_other (a ∷ b ∷ c ∷ words) h = refl

@@ -64,10 +64,6 @@ line_failed before now next whole lines line rest left so_far cut some =
     piece_failed before now next whole (lines ++ rest) (lines ++ line) left so_far
     (ap (λ (xs : List ℕ). lines ++ xs) cut ∙ sym (append_assoc lines line left)) some
 
--- the line was gathered
-pub line_gathered : (now lines line kept : List ℕ) → kept ≡ lines ++ line → IsPartWritten now now (lines ++ line) kept
-line_gathered now lines line kept is = record { front = []; written = sym (append-nil now); split = sym is }
-
 -- the gathered lines and it were written
 pub lines_written : (now next lines line kept : List ℕ) → next ≡ (now ++ lines) ++ line → kept ≡ []
     → IsPartWritten now next (lines ++ line) kept
@@ -78,14 +74,6 @@ lines_written now next lines line kept is none =
       split = sym (append-nil (lines ++ line))
           ∙ ap (λ (xs : List ℕ). (lines ++ line) ++ xs) (sym none);
     }
-
--- a prefix of the first bytes is one of these and more
-pub prefix_of_more : (now next first second : List ℕ) → AppendsPrefix now next first → AppendsPrefix now next (first ++ second)
-prefix_of_more now next first second some = record {
-  count = some.count;
-  within = omega (arith, some.within, length-append first second);
-  appended = some.appended ∙ ap (λ (xs : List ℕ). now ++ xs) (sym (take-append-le some.count first second some.within));
-}
 
 -- a prefix of the second bytes stands behind the first
 pub prefix_behind : (now middle next first second : List ℕ) → middle ≡ now ++ first → AppendsPrefix middle next second

@@ -1,9 +1,9 @@
 -- Rings are built one after another.
-use Rattle.std.proofs.Common.{◌≡◌, ◌∙◌, ◌+◌, ◌-◌, ◌<◌, ◌≤◌, ℕ, ℤ, zero, suc, pos, List, [], ◌∷◌, ◌++◌, All, Some, Result, Ok, Err, IfOk}
-use Rattle.std.proofs.Common.{drop, get_or, length, map, min, slice_get, sum_by, take, append_assoc, append-nil, ap, ap₂, inl, inr, refl}
-use Rattle.std.proofs.Common.{subst, sym, arith, length-append}
+use Rattle.std.proofs.Common.{◌≡◌, ◌∙◌, ◌+◌, ◌<◌, ◌≤◌, ℕ, ℤ, zero, suc, pos, List, [], ◌∷◌, ◌++◌, All, Some, Result, Ok, Err, IfOk}
+use Rattle.std.proofs.Common.{drop, get_or, length, map, min, slice_get, sum_by, take, append-nil, ap, ap₂, inl, inr, refl}
+use Rattle.std.proofs.Common.{subst, sym, arith}
 use Rattle.std.proofs.lemmas.Bool.{cases_lt}
-use Rattle.std.proofs.lemmas.List.{get_or_at, map_push, take_all, take_more}
+use Rattle.std.proofs.lemmas.List.{map_push, take_all, take_more}
 use Rattle.std.proofs.lemmas.List.Sums.{sum_by-drop_more}
 use Rattle.std.proofs.lemmas.Option.{get_or_from_slice_get, slice_get_within}
 use Rattle.grid_exact.specs.Geometry.{Place}
@@ -49,19 +49,6 @@ built-cut Junction ring walk at arcs refs after long inside off on is cut =
     let ws = drop (at + 1) ring ++ (take at ring ++ v ∷ []) in
     let whole = closed_is ring at nowhere inside in
     Cut at v ws long inside off whole on (cut v ws (is ∙ whole))
-
--- the last position of a closed walk is its first
-pub closed-last : (P : Place → Type 0) (ring walk : List Place) (at : ℕ) (d : Place) → at < length ring → walk ≡ closed_from ring at
-    → P (get_or ring at nowhere) → P (get_or walk (length walk - 1) d)
-closed-last P ring walk at d inside is h =
-    let v = get_or ring at nowhere in
-    let front = v ∷ (drop (at + 1) ring ++ take at ring) in
-    let whole : walk ≡ front ++ v ∷ [] = is ∙ closed_is ring at nowhere inside
-    ∙ ap (λ ps. v ∷ ps) (sym (append_assoc (drop (at + 1) ring) (take at ring) (v ∷ []))) in
-    let count = ap length whole ∙ length-append front (v ∷ []) in
-    let last : get_or walk (length walk - 1) d ≡ v = ap (λ ps. get_or ps (length walk - 1) d) whole
-    ∙ get_or_at front v [] d (length walk - 1) (omega (arith, count)) in
-    subst P (sym last) h
 
 -- ---- ring after ring
 

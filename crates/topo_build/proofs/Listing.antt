@@ -12,7 +12,7 @@ use Rattle.topo_build.specs.Found.{AreNext, IsAlong}
 use Rattle.topo_build.specs.References.{arc_of, walk_of}
 use Rattle.topo_build.specs.Table.{AreListed, ArePut, edge, same_edge}
 use Rattle.topo_build.specs.declared.arcs.Edge.{Edge}
-use Rattle.topo_build.proofs.Sharing.{next-nil, next-none, next-turned}
+use Rattle.topo_build.proofs.Sharing.{next-nil, next-turned}
 
 -- ---- what is found
 
@@ -143,16 +143,6 @@ reaches walk k p q some inside is_p is_q =
           ∙ ap (λ z. take (k - 1) walk ++ z ∷ []) (sym is_p);
       here = take_more walk k q inside ∙ ap (λ z. take k walk ++ z ∷ []) (sym is_q);
     }
-
-pub put-none : (walk : List Place) (number : ℕ) (found : Edge → Option ℕ) → ArePut (take 1 walk) number found found
-put-none walk number found = record {
-  here = λ a b next. absurd (short walk a b next);
-  other = λ e. inl refl;
-}
-  where
-    short : (walk : List Place) (a b : Place) → AreNext a b (take 1 walk) → ⊥
-    short [] a b next = next-nil a b next
-    short (w ∷ ws) a b next = next-none a b w next
 
 pub put-more : (walk : List Place) (k number : ℕ) (p q : Place) (before mid found : Edge → Option ℕ) → 1 ≤ k → k < length walk
     → p ≡ get_or walk (k - 1) p → q ≡ get_or walk k q → ((e : Edge) → found e ≡ cond (same_edge (edge p q) e) (Some number) (mid e))

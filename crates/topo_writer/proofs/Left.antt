@@ -1,21 +1,16 @@
 -- What is left of the texts of lists after the first of them.
-use Rattle.std.proofs.Common.{◌≡◌, ℕ, zero, suc, Some, ◌+◌, ◌<◌, ◌≤◌, Bool, true, false, List, [], ◌∷◌, ◌++◌, length, get_or, drop, map}
+use Rattle.std.proofs.Common.{◌≡◌, ℕ, zero, suc, Some, ◌+◌, ◌<◌, ◌≤◌, Bool, List, [], ◌∷◌, ◌++◌, length, get_or, drop, map}
 use Rattle.std.proofs.Common.{sum_by, refl, arith, add-one, drop-cons, append_assoc}
 use Rattle.std.specs.Prelude.{codes, slice_get}
 use Rattle.std.proofs.lemmas.List.Sums.{sum_by-cons}
 use Rattle.arc_map.specs.Map.{IsArc}
 use Rattle.grid_exact.specs.Geometry.{Place}
 use Rattle.topo_writer.specs.Texts.{behind_commas, position_text}
-use Rattle.topo_writer.specs.ArcsText.{arc_text, coded_position, coded_positions}
+use Rattle.topo_writer.specs.ArcsText.{arc_text, coded_positions}
 
 -- the texts of the positions that follow p, each behind a comma
 abbrev pub later_text : Bool → Place → List Place → List ℕ
 later_text coded p qs = behind_commas (map position_text (coded_positions coded p qs))
-
-pub later-step : (coded : Bool) (p q : Place) (qs : List Place)
-    → later_text coded p (q ∷ qs) ≡ codes "," ++ position_text (coded_position coded p q) ++ later_text coded q qs
-later-step true p q qs = refl
-later-step false p q qs = refl
 
 -- the texts of the arcs, each behind a comma
 abbrev pub arcs_left : Bool → List (List Place) → List ℕ
