@@ -1,5 +1,6 @@
 pub mod Corridor
 pub mod Hull
+pub mod Passing
 pub mod Stepping
 pub mod Sided
 pub mod Reaching

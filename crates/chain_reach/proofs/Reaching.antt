@@ -1,5 +1,5 @@
 -- The law of reach: what would change sides is in reach of the run.
-use Rattle.std.proofs.Common.{◌≡◌, inl, inr, Bool, true, false, List, [], ◌∷◌, ◌++◌, All, map, ℤ, zero, suc, pos, negsuc, ◌+ℤ◌, ◌-ℤ◌, ◌*ℤ◌}
+use Rattle.std.proofs.Common.{◌≡◌, ◌⊎◌, inl, inr, Bool, true, false, List, [], ◌∷◌, ◌++◌, All, map, ℤ, zero, suc, pos, negsuc, ◌+ℤ◌, ◌-ℤ◌, ◌*ℤ◌}
 use Rattle.std.proofs.Common.{◌≤ℤ◌, ◌<ℤ◌, refl, sym, subst, ◌∙◌, append_assoc, arith}
 use Rattle.std.proofs.lemmas.Int.{ints}
 use Rattle.std.proofs.lemmas.List.Elements.{All-weaker}
@@ -8,7 +8,8 @@ use Rattle.grid_exact.specs.Near.{IsNear, weighted}
 use Rattle.grid_exact.proofs.Weighted.{near_is_within}
 use Rattle.grid_exact.specs.Geometry.IsBefore.{Left, Below as LowerOf}
 use Rattle.grid_exact.specs.Segments.{IsOffSegment}
-use Rattle.grid_exact.specs.Walks.{EachEdge, end_of, IsOff}
+use Rattle.grid_exact.specs.Crossing.{is_crossed}
+use Rattle.grid_exact.specs.Walks.{EachEdge, end_of, IsOff, count_edges, is_odd}
 use Rattle.grid_exact.specs.Runs.{IsEdgeOf, IsMonotone}
 use Rattle.grid_exact.specs.declared.frame.Frame.{Frame}
 use Rattle.grid_exact.specs.declared.frame.Frame.TheVariants.{Plain, Turned}
@@ -16,7 +17,7 @@ use Rattle.grid_exact.proofs.WholeLaws.{sums}
 use Rattle.grid_exact.proofs.Signs.{Negative, Zero, Positive, sign_of, at_most_or_above, square_nonnegative, zero_from_times}
 use Rattle.grid_exact.proofs.Polynomial.{Whole, ◌⊕◌, ◌⊖◌, ◌⊗◌, ◌≈◌, Variable, identity_2, identity_3, identity_4, by_identity}
 use Rattle.grid_exact.proofs.Commons.{on_turned}
-use Rattle.grid_exact.proofs.Walks.{end_of-pushed}
+use Rattle.grid_exact.proofs.Walks.{end_of-pushed, each_edge_mapped}
 use Rattle.chain_side.specs.declared.sides.Side.{Side}
 use Rattle.chain_side.specs.declared.sides.Side.TheVariants.{Above, On, Below, Outside}
 use Rattle.chain_side.specs.Along.{IsAlong}
@@ -24,11 +25,13 @@ use Rattle.chain_side.specs.Sides.{SpanningEdge, EdgeUnder, IsSideOf}
 use Rattle.chain_side.proofs.Passed.{edge_has}
 use Rattle.chain_side.proofs.Told.{way_of, ends_rise, one_side, outside_spans_none}
 use Rattle.chain_side.proofs.Parity.{sides_tell_crossings}
-use Rattle.chain_reach.specs.Reach.{ahead_of, EachVertex, IsInHull, IsBeyond, IsOutOfReachBy}
+use Rattle.chain_reach.specs.Reach.{ahead_of, EachVertex, IsInHull, IsBeyond, IsInGrownBox, IsOutOfReachBy, IsBySegment, IsCloseToSegment}
+use Rattle.chain_reach.specs.Reach.IsBeyond.{LeftOf, RightOf, Under, Over}
 use Rattle.chain_reach.specs.Laws.{OutOfHullIsEven, OutOfHullKeepsSide, OutOfReachKeepsSide, OutOfReachIsEven}
 use Rattle.chain_reach.proofs.Corridor.{IsTo, IsHeld, held_within, held_flat}
 use Rattle.chain_reach.proofs.Hull.{vertices_also, first_vertex, end_vertex, both_ends, all_vertices, on_in_hull, between_in_hull}
-use Rattle.chain_reach.proofs.Stepping.{steps_same, reached_in_corridor}
+use Rattle.chain_reach.proofs.Passing.{steps_same, by_in_box}
+use Rattle.chain_reach.proofs.Stepping.{reached_in_corridor}
 use Rattle.chain_reach.proofs.Sided.{side_along}
 
 -- ---- the hull of a walk in the corridor is in the corridor
@@ -111,7 +114,7 @@ ends_apart frame rising v x xs way = along_apart frame rising v (end_of x xs) (e
 
 -- ---- what is in the hull
 
-each_edge_by : {A : Type 0} (P : A → A → Type 0) (v : A) (ws : List A) → ((a b : A) → IsEdgeOf v ws a b → P a b) → EachEdge P v ws
+pub each_edge_by : {A : Type 0} (P : A → A → Type 0) (v : A) (ws : List A) → ((a b : A) → IsEdgeOf v ws a b → P a b) → EachEdge P v ws
 each_edge_by P v [] f = tt
 each_edge_by P v (w ∷ ws) f = (f v w (inl (refl, refl)), each_edge_by P w ws (λ a b e. f a b (inr e)))
 
@@ -285,11 +288,15 @@ stretched_same w a b one e =
     let z : a -ℤ b ≡ pos 0 = zero_from_times w (a -ℤ b) (omega (arith, sums)) (omega (arith, sums, d)) in
     omega (arith, sums)
 
--- out of reach is out of the hull
+-- no edge of the walk is close to p
+abbrev pub IsFarBy : ℤ → ℤ → ℤ → Place → Place → List Place → Type 0
+IsFarBy wx wy e p v ws = EachEdge (λ a b. ¬ (IsCloseToSegment wx wy e p a b)) v ws
+
+-- far is out of the hull
 out_of_hull : (frame : Frame) (rising : Bool) (wx wy : ℤ) (v x : Place) (xs : List Place) (p : Place) (e : ℤ) → pos 1 ≤ℤ wx → pos 1 ≤ℤ wy
     → EachEdge (IsAlong frame rising) v (x ∷ xs)
     → EachVertex (λ q. IsHeld (weighted wx wy v) (weighted wx wy (end_of x xs)) e (weighted wx wy q)) v (x ∷ xs)
-    → IsOutOfReachBy wx wy e p v (x ∷ xs) → ¬ (IsInHull p v (x ∷ xs))
+    → IsFarBy wx wy e p v (x ∷ xs) → ¬ (IsInHull p v (x ∷ xs))
 out_of_hull frame rising wx wy v x xs p e one_x one_y way held out hull =
     let view = weighted wx wy in
     let w = end_of x xs in
@@ -299,12 +306,12 @@ out_of_hull frame rising wx wy v x xs p e one_x one_y way held out hull =
     let seen_hull = stretched_hull wx wy p v (x ∷ xs) hull in
     reached_in_corridor (view v) (view w) (view p) e (view v) (view x) (map view xs) long
     (in_hull_held (view v) (view w) (view p) e (view v) (map view (x ∷ xs)) seen_hull seen) seen
-    (edges_seen (IsBeyond (pos 2 *ℤ e) (view p)) view v (x ∷ xs) out) seen_hull
+    (edges_seen (λ a b. ¬ (IsBySegment (pos 2 *ℤ e +ℤ pos 1) (pos 2 *ℤ e +ℤ pos 1) (view p) a b)) view v (x ∷ xs) out) seen_hull
 
 out_of_run_hull : (frame : Frame) (wx wy : ℤ) (v w : Place) (skipped : List Place) (p : Place) (e : ℤ) → pos 1 ≤ℤ wx → pos 1 ≤ℤ wy
     → IsMonotone frame v (skipped ++ w ∷ [])
     → EachVertex (λ q. IsHeld (weighted wx wy v) (weighted wx wy w) e (weighted wx wy q)) v (skipped ++ w ∷ [])
-    → IsOutOfReachBy wx wy e p v (skipped ++ w ∷ []) → ¬ (IsInHull p v (skipped ++ w ∷ []))
+    → IsFarBy wx wy e p v (skipped ++ w ∷ []) → ¬ (IsInHull p v (skipped ++ w ∷ []))
 out_of_run_hull frame wx wy v w [] p e one_x one_y monotone held out = let way = way_of frame v (w ∷ []) monotone in
     out_of_hull frame way.rising wx wy v w [] p e one_x one_y way.runs held out
 out_of_run_hull frame wx wy v w (x ∷ xs) p e one_x one_y monotone held out =
@@ -330,12 +337,40 @@ held_skipped wx wy v w e skipped bound near =
     (All-weaker (λ q. IsNear wx wy v w q e) (λ q. IsHeld (view v) (view w) e (view q)) (λ q h.
     held_within (view v) (view w) (view q) e bound ((near_is_within wx wy v w q e).0 h)) skipped near)
 
+-- what is far from a run does not change sides
+pub far_is_even : (frame : Frame) (wx wy : ℤ) (v w : Place) (skipped : List Place) (p : Place) (e : ℤ) → pos 1 ≤ℤ wx → pos 1 ≤ℤ wy
+    → pos 0 ≤ℤ e → IsMonotone frame v (skipped ++ w ∷ []) → All (λ q. IsNear wx wy v w q e) skipped
+    → IsFarBy wx wy e p v (skipped ++ w ∷ []) → IsOff p v (skipped ++ w ∷ v ∷ [])
+    × (is_odd (count_edges (is_crossed p) v (skipped ++ w ∷ v ∷ [])) ≡ false)
+far_is_even frame wx wy v w skipped p e one_x one_y bound monotone near far =
+    out_of_hull_is_even frame v w skipped p monotone (out_of_run_hull frame wx wy v w skipped p e one_x one_y monotone
+    (held_skipped wx wy v w e skipped bound near) far)
+
+-- ---- out of the grown boxes of the edges
+
+both_past : (a b c d : ℤ) → (a ≤ℤ b) ⊎ (c ≤ℤ d) → b <ℤ a → d <ℤ c → ⊥
+both_past a b c d (inl h) l m = omega (arith, sums)
+both_past a b c d (inr h) l m = omega (arith, sums)
+
+not_beyond_box : (r : ℤ) (p a b : Place) → IsInGrownBox r r p a b → ¬ (IsBeyond r p a b)
+not_beyond_box r p a b h (LeftOf k m) = both_past a.x (p.x +ℤ r) b.x (p.x +ℤ r) h.left k m
+not_beyond_box r p a b h (RightOf k m) = both_past p.x (a.x +ℤ r) p.x (b.x +ℤ r) h.right k m
+not_beyond_box r p a b h (Under k m) = both_past a.y (p.y +ℤ r) b.y (p.y +ℤ r) h.bottom k m
+not_beyond_box r p a b h (Over k m) = both_past p.y (a.y +ℤ r) p.y (b.y +ℤ r) h.top k m
+
+-- what is out of reach of a walk is far from it
+far_out_of_reach : (wx wy e : ℤ) (p v : Place) (ws : List Place) → IsOutOfReachBy wx wy e p v ws → IsFarBy wx wy e p v ws
+far_out_of_reach wx wy e p v ws out =
+    let view = weighted wx wy in
+    each_edge_mapped (λ a b. IsBeyond (pos 2 *ℤ e) (view p) (view a) (view b)) (λ a b. ¬ (IsCloseToSegment wx wy e p a b)) (λ a b beyond close.
+    not_beyond_box (pos 2 *ℤ e) (view p) (view a) (view b) (by_in_box (pos 2 *ℤ e) (pos 2 *ℤ e) (view p) (view a) (view b) close) beyond) v ws
+    out
+
 pub out_of_reach_is_even : OutOfReachIsEven
 out_of_reach_is_even frame wx wy v w skipped p e one_x one_y bound monotone near out =
-    out_of_hull_is_even frame v w skipped p monotone (out_of_run_hull frame wx wy v w skipped p e one_x one_y monotone
-    (held_skipped wx wy v w e skipped bound near) out)
+    far_is_even frame wx wy v w skipped p e one_x one_y bound monotone near (far_out_of_reach wx wy e p v (skipped ++ w ∷ []) out)
 
 pub out_of_reach_keeps_side : OutOfReachKeepsSide
 out_of_reach_keeps_side frame wx wy v w skipped p e side one_x one_y bound monotone near out h =
     out_of_hull_keeps_side frame v w skipped p side monotone (out_of_run_hull frame wx wy v w skipped p e one_x one_y monotone
-    (held_skipped wx wy v w e skipped bound near) out) h
+    (held_skipped wx wy v w e skipped bound near) (far_out_of_reach wx wy e p v (skipped ++ w ∷ []) out)) h

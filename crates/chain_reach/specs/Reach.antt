@@ -58,6 +58,43 @@ pub record IsInSomeBox (r s : ℤ) (p v : Place) (ws : List Place) : Type 0 wher
   pub edge : IsEdgeOf v ws start end
   pub box : IsInGrownBox r s p start end
 
+-- ---- the places of its edges
+
+-- z is between -b and b, and neither of them
+pub record IsUnder (b z : ℤ) : Type 0 where
+  pub low : (pos 0 -ℤ b) <ℤ z
+  pub high : z <ℤ b
+
+-- p is less than r across and less than s up from some place of the closed segment ab, the fraction `numerator / denominator` of the way
+-- from a to b
+pub record IsBySegment (r s : ℤ) (p a b : Place) : Type 0 where
+  pub denominator : ℤ
+  pub numerator : ℤ
+  pub whole : pos 1 ≤ℤ denominator
+  pub from_start : pos 0 ≤ℤ numerator
+  pub to_end : numerator ≤ℤ denominator
+  pub across : IsUnder (denominator *ℤ r) (denominator *ℤ (p.x -ℤ a.x) -ℤ numerator *ℤ (b.x -ℤ a.x))
+  pub up : IsUnder (denominator *ℤ s) (denominator *ℤ (p.y -ℤ a.y) -ℤ numerator *ℤ (b.y -ℤ a.y))
+
+-- p is close to the segment ab with the bound e: less than one more than twice the bound from some place of it, on each axis
+abbrev pub IsCloseToSegment : ℤ → ℤ → ℤ → Place → Place → Place → Type 0
+IsCloseToSegment wx wy e p a b =
+    IsBySegment (pos 2 *ℤ e +ℤ pos 1) (pos 2 *ℤ e +ℤ pos 1) (weighted wx wy p) (weighted wx wy a) (weighted wx wy b)
+
+-- p is close to some edge of the walk from v along ws
+pub record IsCloseBy (wx wy e : ℤ) (p v : Place) (ws : List Place) : Type 0 where
+  pub start : Place
+  pub end : Place
+  pub edge : IsEdgeOf v ws start end
+  pub close : IsCloseToSegment wx wy e p start end
+
+-- p is less than r across and less than s up from some place of some edge of the walk
+pub record IsBySomeEdge (r s : ℤ) (p v : Place) (ws : List Place) : Type 0 where
+  pub start : Place
+  pub end : Place
+  pub edge : IsEdgeOf v ws start end
+  pub by : IsBySegment r s p start end
+
 -- ---- boxes that hold a walk between them
 
 -- a box, from its lowest corner to its highest

@@ -2,7 +2,8 @@
 ghost use Rattle.chain_reach.specs.Laws.{BoxesFindReach, InReachOrOut, OnlyReachCounts};
 ghost use Rattle.chain_reach.specs.Laws.{OnlyReachCountsOfChain, OutOfHullIsEven};
 ghost use Rattle.chain_reach.specs.Laws.{OutOfHullKeepsSide, OutOfReachKeepsSide, OutOfReachIsEven};
-ghost use Rattle.chain_reach.specs.Laws.{ReachIsInSteps};
+ghost use Rattle.chain_reach.specs.Laws.{ReachIsInSteps, OnlyCloseCounts, OnlyCloseCountsOfChain};
+ghost use Rattle.chain_reach.specs.Laws.{CloseIsInReach, CloseIsInSteps};
 
 /// A place out of the convex hull of a run does not change sides where the run is cut short, in
 /// either frame.
@@ -31,6 +32,27 @@ pub fn only_reach_counts()
 /// The same of two vertices of a chain of the map, in the words of allowed pairs.
 pub fn only_reach_counts_of_chain()
     ensures { OnlyReachCountsOfChain }
+{}
+
+/// Of those only the places close to an edge of the chain do: at most twice the bound from a place
+/// of it, on each axis.
+pub fn only_close_counts()
+    ensures { OnlyCloseCounts }
+{}
+
+/// The same of two vertices of a chain of the map, in the words of allowed pairs.
+pub fn only_close_counts_of_chain()
+    ensures { OnlyCloseCountsOfChain }
+{}
+
+/// What is close to a walk is in reach of it.
+pub fn close_is_in_reach()
+    ensures { CloseIsInReach }
+{}
+
+/// What is close to a walk is so in whole steps of the grid.
+pub fn close_is_in_steps()
+    ensures { CloseIsInSteps }
 {}
 
 /// What is in reach is in the box of an edge, grown by whole steps of the grid: a question to an
