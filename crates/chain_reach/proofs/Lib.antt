@@ -6,4 +6,5 @@ pub mod Sided
 pub mod Reaching
 pub mod Pairs
 pub mod Boxes
+pub mod Parting
 pub mod Numbered

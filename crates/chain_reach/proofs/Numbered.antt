@@ -1,4 +1,4 @@
--- What is in reach of a walk is near an edge with a number, and in the grown box round the walk.
+-- What is close to a walk is near an edge with a number, and in the grown box round the walk.
 use mir.Val.{SFits}
 use Rattle.std.proofs.Common.{Option, Some, IfSome, w64, to_z, of_z, ◌≡◌, ◌⊎◌, inl, inr, ℕ, suc, ◌+◌, ◌-◌, ◌*◌, ◌<◌, ◌≤◌, ◌↔◌, Bool, true}
 use Rattle.std.proofs.Common.{IsTrue, List, [], ◌∷◌, length, get_or, take, drop, ℤ, pos, ◌+ℤ◌, ◌*ℤ◌, ◌≤ℤ◌, ◌<ℤ◌, refl, sym, ap, ◌∙◌, subst}
@@ -11,11 +11,12 @@ use Rattle.grid_exact.specs.Geometry.{Place, IsGridNumber}
 use Rattle.grid_exact.specs.Runs.{IsEdgeOf}
 use Rattle.grid_exact.proofs.WholeLaws.{fits, sums}
 use Rattle.chain_side.specs.Along.{vertex_at}
-use Rattle.chain_reach.specs.Reach.{IsInGrownBox, IsInReachBy, IsHeldBy}
-use Rattle.chain_reach.specs.Steps.{AreStepsOf, IsNearEdge, IsNearSomeEdge}
+use Rattle.chain_reach.specs.Reach.{IsInGrownBox, IsCloseBy, IsHeldBy}
+use Rattle.chain_reach.specs.Steps.{AreStepsOf, IsInEdgeBox, IsInSomeEdgeBox, IsNearSegment, IsNearEdge, IsNearSomeEdge}
 use Rattle.chain_reach.specs.Extents.{IsInBox, IsLowerLeft, IsWithinSteps}
 use Rattle.chain_reach.specs.declared.steps.Steps.{Steps}
-use Rattle.chain_reach.proofs.Pairs.{reach_is_in_steps}
+use Rattle.chain_reach.proofs.Passing.{by_in_box}
+use Rattle.chain_reach.proofs.Pairs.{close_is_in_steps}
 
 -- ---- answers of tests
 
@@ -58,29 +59,34 @@ edge_number v (w ∷ ws) a b (inr h) =
       end = ap (vertex_at (v ∷ w ∷ ws)) next ∙ k.end;
     }
 
--- what is in reach of a walk is near some edge of it, in steps
+-- what is close to a walk is near some edge of it, in steps
 pub near_some_edge : (wx wy e : ℤ) (steps : Steps) (p v : Place) (ws : List Place) → pos 1 ≤ℤ wx → pos 1 ≤ℤ wy
-    → AreStepsOf wx e steps.across → AreStepsOf wy e steps.up → IsInReachBy wx wy e p v ws → IsNearSomeEdge steps (v ∷ ws) p
-near_some_edge wx wy e steps p v ws one_x one_y across up reach =
-    let r = pos steps.across in
-    let s = pos steps.up in
-    let h = reach_is_in_steps wx wy e (pos steps.across) (pos steps.up) p v ws one_x one_y across.most up.most reach in
+    → AreStepsOf wx e steps.across → AreStepsOf wy e steps.up → IsCloseBy wx wy e p v ws → IsNearSomeEdge steps (v ∷ ws) p
+near_some_edge wx wy e steps p v ws one_x one_y across up close =
+    let h = close_is_in_steps wx wy e (pos steps.across) (pos steps.up) p v ws one_x one_y across.most up.most close in
     let k = edge_number v ws h.start h.end h.edge in
-    let end : IsInGrownBox (pos steps.across) (pos steps.up) p h.start (vertex_at (v ∷ ws) (k.number + 1))
-    = subst (λ (b : Place). IsInGrownBox (pos steps.across) (pos steps.up) p h.start b) (sym k.end) h.box in
+    let end : IsNearSegment steps h.start (vertex_at (v ∷ ws) (k.number + 1)) p
+    = subst (λ (b : Place). IsNearSegment steps h.start b p) (sym k.end) h.by in
     record {
       edge = k.number;
       within = k.within;
-      near = subst (λ (a : Place). IsInGrownBox (pos steps.across) (pos steps.up) p a (vertex_at (v ∷ ws) (k.number + 1))) (sym k.start)
-          end;
+      near = subst (λ (a : Place). IsNearSegment steps a (vertex_at (v ∷ ws) (k.number + 1)) p) (sym k.start) end;
     }
+
+-- what is near an edge is in its box
+pub near_in_box : (steps : Steps) (walk : List Place) (p : Place) (edge : ℕ) → IsNearEdge steps walk p edge → IsInEdgeBox steps walk p edge
+near_in_box steps walk p edge near =
+    by_in_box (pos steps.across) (pos steps.up) p (vertex_at walk edge) (vertex_at walk (edge + 1)) near
+
+pub near_in_some_box : (steps : Steps) (walk : List Place) (p : Place) → IsNearSomeEdge steps walk p → IsInSomeEdgeBox steps walk p
+near_in_some_box steps walk p h = record { edge = h.edge; within = h.within; box = near_in_box steps walk p h.edge h.near }
 
 -- ---- the edge that is looked at, by the place of its end
 
-pub near_here : (steps : Steps) (walk : List Place) (p a b : Place) (end edge : ℕ) → edge + 1 ≡ end → end < length walk
+pub box_here : (steps : Steps) (walk : List Place) (p a b : Place) (end edge : ℕ) → edge + 1 ≡ end → end < length walk
     → a ≡ get_or walk (end - 1) a → b ≡ get_or walk end b → IsInGrownBox (pos steps.across) (pos steps.up) p a b
-    ↔ IsNearEdge steps walk p edge
-near_here steps walk p a b end edge next within first second =
+    ↔ IsInEdgeBox steps walk p edge
+box_here steps walk p a b end edge next within first second =
     let before : end - 1 ≡ edge = omega arith in
     let e : a ≡ vertex_at walk edge = get_or_read walk (end - 1) a (omega arith) first _ ∙ ap (vertex_at walk) before in
     let f : b ≡ vertex_at walk (edge + 1) = get_or_read walk end b within second _ ∙ ap (vertex_at walk) (sym next) in
@@ -89,27 +95,27 @@ near_here steps walk p a b end edge next within first second =
       λ h. subst (λ (y : Place). Box a y) (sym f) (subst (λ (x : Place). Box x (vertex_at walk (edge + 1))) (sym e) h),
     )
 
--- no edge that ends before this one is near
-abbrev pub IsNearNone : Steps → List Place → Place → ℕ → Type 0
-IsNearNone steps walk p end = (edge : ℕ) → edge + 1 < end → ¬ (IsNearEdge steps walk p edge)
+-- p is in the box of no edge that ends before this one
+abbrev pub IsInNoBox : Steps → List Place → Place → ℕ → Type 0
+IsInNoBox steps walk p end = (edge : ℕ) → edge + 1 < end → ¬ (IsInEdgeBox steps walk p edge)
 
-pub near_none_more : (steps : Steps) (walk : List Place) (p a b : Place) (end : ℕ) → 0 < end → end < length walk
+pub no_box_more : (steps : Steps) (walk : List Place) (p a b : Place) (end : ℕ) → 0 < end → end < length walk
     → a ≡ get_or walk (end - 1) a → b ≡ get_or walk end b → ¬ (IsInGrownBox (pos steps.across) (pos steps.up) p a b)
-    → IsNearNone steps walk p end → IsNearNone steps walk p (end + 1)
-near_none_more steps walk p a b end some within first second far none edge below near =
+    → IsInNoBox steps walk p end → IsInNoBox steps walk p (end + 1)
+no_box_more steps walk p a b end some within first second out none edge below box =
     elim (cases_lt (edge + 1) end) [
-      | inl less ↦ none edge less near
+      | inl less ↦ none edge less box
       | inr more ↦
           let next : edge + 1 ≡ end = omega arith in
-          far ((near_here steps walk p a b end edge next within first second).1 near)
+          out ((box_here steps walk p a b end edge next within first second).1 box)
     ]
 
-pub near_found : (steps : Steps) (walk : List Place) (p a b : Place) (end : ℕ) → 0 < end → end < length walk
+pub box_found : (steps : Steps) (walk : List Place) (p a b : Place) (end : ℕ) → 0 < end → end < length walk
     → a ≡ get_or walk (end - 1) a → b ≡ get_or walk end b → IsInGrownBox (pos steps.across) (pos steps.up) p a b
-    → IsNearSomeEdge steps walk p
-near_found steps walk p a b end some within first second near =
+    → IsInSomeEdgeBox steps walk p
+box_found steps walk p a b end some within first second box =
     let next : end - 1 + 1 ≡ end = omega arith in
-    record { edge = end - 1; within = omega arith; near = (near_here steps walk p a b end (end - 1) next within first second).0 near }
+    record { edge = end - 1; within = omega arith; box = (box_here steps walk p a b end (end - 1) next within first second).0 box }
 
 -- ---- boxes
 
@@ -138,7 +144,8 @@ near_within steps low high p walk all h =
     let none : Place = record { x = pos 0; y = pos 0 } in
     let within = h.within in
     held_by_box (pos steps.across) (pos steps.up) low high p (vertex_at walk h.edge) (vertex_at walk (h.edge + 1))
-    (all h.edge (record { x = pos 0; y = pos 0 }) (omega arith)) (all (h.edge + 1) (record { x = pos 0; y = pos 0 }) within) h.near
+    (all h.edge (record { x = pos 0; y = pos 0 }) (omega arith)) (all (h.edge + 1) (record { x = pos 0; y = pos 0 }) within)
+    (near_in_box steps walk p h.edge h.near)
 
 -- ---- a part of a walk
 
@@ -164,12 +171,12 @@ near_in_part steps walk p start end edge within low high near =
     part_vertex walk start end (edge - start) (omega arith) ∙ ap (vertex_at walk) here in
     let second : vertex_at (take (end + 1 - start) (drop start walk)) (edge - start + 1) ≡ vertex_at walk (edge + 1) =
     part_vertex walk start end (edge - start + 1) (omega arith) ∙ ap (vertex_at walk) next in
-    let Box : Place → Place → Type 0 = λ a b. IsInGrownBox (pos steps.across) (pos steps.up) p a b in
+    let Near : Place → Place → Type 0 = λ a b. IsNearSegment steps a b p in
     record {
       edge = edge - start;
       within = omega (arith, size);
-      near = subst (λ (a : Place). Box a (vertex_at (take (end + 1 - start) (drop start walk)) (edge - start + 1))) (sym first)
-          (subst (λ (b : Place). Box (vertex_at walk edge) b) (sym second) near);
+      near = subst (λ (a : Place). Near a (vertex_at (take (end + 1 - start) (drop start walk)) (edge - start + 1))) (sym first)
+          (subst (λ (b : Place). Near (vertex_at walk edge) b) (sym second) near);
     }
 
 -- ---- corners as they are made

@@ -5,6 +5,7 @@
 mod blocks;
 mod extent;
 mod laws;
+mod parts;
 mod steps;
 
 pub use blocks::{block_end, block_round, block_size, may_reach, next_size};
@@ -15,4 +16,5 @@ pub use laws::{
     out_of_hull_is_even, out_of_hull_keeps_side, out_of_reach_is_even, out_of_reach_keeps_side,
     reach_is_in_steps,
 };
+pub use parts::part_round;
 pub use steps::Steps;

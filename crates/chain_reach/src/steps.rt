@@ -2,7 +2,7 @@
 ghost use Rattle.std.specs.Prelude.{◌≡◌, ◌⊎◌, ◌↔◌, ◌+◌, ◌*◌, ◌<◌, ◌≤◌, ◌^◌, IsTrue, pos, ◌+ℤ◌};
 ghost use Rattle.std.specs.Prelude.{◌≤ℤ◌, unsigned_abs};
 ghost use Rattle.chain_reach.specs.Reach.{IsInGrownBox};
-ghost use Rattle.chain_reach.specs.Steps.{AreStepsOf, IsNearSomeEdge};
+ghost use Rattle.chain_reach.specs.Steps.{AreStepsOf, IsInSomeEdgeBox};
 
 use grid_exact::{Bound, Point, Weights};
 
@@ -68,7 +68,7 @@ fn quotient(n: u32, d: u32) -> u32
 // Whether p is in the box of some edge of the walk along these places, grown by the steps on all
 // four sides.
 pub fn reaches(walk: &[Point], steps: Steps, p: Point) -> bool
-    ensures { IsTrue result ↔ IsNearSomeEdge steps walk.now p }
+    ensures { IsTrue result ↔ IsInSomeEdgeBox steps walk.now p }
 {
     for end in 1..walk.len() {
         if is_near(walk[end - 1], walk[end], steps, p) {
