@@ -1,9 +1,9 @@
 -- What is in a part of a segment, and what is near it, on one axis.
-use Rattle.std.proofs.Common.{◌≡◌, [], ◌∷◌, ℕ, ◌+◌, ◌-◌, ◌*◌, ◌<◌, ◌≤◌, ℤ, pos, ◌+ℤ◌, ◌-ℤ◌, ◌*ℤ◌, ◌≤ℤ◌, ◌<ℤ◌, refl, sym, ap, subst, arith}
+use Rattle.std.proofs.Common.{◌≡◌, inl, inr, [], ◌∷◌, ℕ, zero, suc, ◌+◌, ◌-◌, ◌*◌, ◌<◌, ◌≤◌, ℤ, pos, ◌+ℤ◌, ◌-ℤ◌, ◌*ℤ◌, ◌≤ℤ◌, ◌<ℤ◌, refl, sym, ap, subst, arith}
 use Rattle.std.proofs.lemmas.Int.{ints}
 use Rattle.grid_exact.proofs.WholeLaws.{sums}
-use Rattle.grid_exact.proofs.Signs.{times_nonnegative, nonnegative_from_times, positive_from_times}
-use Rattle.grid_exact.proofs.Polynomial.{Whole, ◌⊕◌, ◌⊖◌, ◌⊗◌, ◌≈◌, Variable, by_identity, identity_3, identity_4, identity_6}
+use Rattle.grid_exact.proofs.Signs.{at_most_or_above, times_nonnegative, nonnegative_from_times, positive_from_times}
+use Rattle.grid_exact.proofs.Polynomial.{Whole, ◌⊕◌, ◌⊖◌, ◌⊗◌, ◌≈◌, Variable, by_identity, identity_1, identity_3, identity_4, identity_6}
 use Rattle.chain_reach.specs.Parts.{IsInPart, IsLowOfPart, IsHighOfPart}
 
 -- where q is at most the share k / p of d, and i / n is at least that share, n times q is at most i times d
@@ -91,3 +91,29 @@ before_high n i r u z a b whole high near =
     ≈ (x 0 ⊗ (x 2 ⊕ Whole (pos 1)) ⊖ (x 0 ⊗ (x 4 ⊖ x 5) ⊖ x 1 ⊗ (x 6 ⊖ x 5))) ⊕ (x 0 ⊗ x 3 ⊖ (x 0 ⊗ x 5 ⊕ x 1 ⊗ (x 6 ⊖ x 5)))) refl in
     let h : pos 0 <ℤ (u +ℤ r +ℤ pos 1 -ℤ z) = positive_from_times n (u +ℤ r +ℤ pos 1 -ℤ z) whole (omega (arith, sums, e)) in
     omega (arith, sums)
+
+-- ---- each place of a way is in a part
+
+part_up_to : (n i : ℤ) (parts c : ℕ) → pos 1 ≤ℤ n → pos 0 ≤ℤ i → (pos parts *ℤ i) ≤ℤ (pos c *ℤ n) → 0 < c
+    → (part : ℕ) × (part < c) × IsInPart n i parts part
+part_up_to n i parts zero whole low up some = absurd (omega arith)
+part_up_to n i parts (suc zero) whole low up some =
+    let none = identity_1 n (λ n. Whole (pos 0) ⊗ n ≈ Whole (pos 0)) refl in
+    let gone : pos 0 ≤ℤ (pos parts *ℤ i) = times_nonnegative (pos parts) i (omega (arith, ints)) low in
+    (0, omega arith, record { from_start = omega (arith, sums, none); to_end = up })
+part_up_to n i parts (suc (suc c)) whole low up some =
+    elim (at_most_or_above (pos parts *ℤ i) (pos (suc c) *ℤ n)) [
+      | inl h ↦ let before = part_up_to n i parts (suc c) whole low h (omega arith) in (before.0, omega (arith, before.1), before.2)
+      | inr h ↦
+          let next : suc c + 1 ≡ suc (suc c) = omega arith in
+          (suc c, omega arith, record {
+            from_start = omega (arith, sums);
+            to_end = subst (λ (k : ℕ). (pos parts *ℤ i) ≤ℤ (pos k *ℤ n)) (sym next) up;
+          })
+    ]
+
+pub part_of : (n i : ℤ) (parts : ℕ) → pos 1 ≤ℤ n → pos 0 ≤ℤ i → i ≤ℤ n → 0 < parts → (part : ℕ) × (part < parts) × IsInPart n i parts part
+part_of n i parts whole low high some =
+    let e = identity_3 (pos parts) i n (λ p i n. p ⊗ (n ⊖ i) ≈ p ⊗ n ⊖ p ⊗ i) refl in
+    let r : pos 0 ≤ℤ (pos parts *ℤ (n -ℤ i)) = times_nonnegative (pos parts) (n -ℤ i) (omega (arith, ints)) (omega (arith, sums)) in
+    part_up_to n i parts parts whole low (omega (arith, sums, e)) some

@@ -70,6 +70,27 @@ pub fn next_size(
     fewer_edges(walk, start, size, steps, whole)
 }
 
+/// In how many equal parts to cut the edge that is looked round by itself, where it or each part of
+/// the one before it had `found` items in its box: in twice as many where these are many, in half as
+/// many where they are few. One where there are several edges.
+pub fn next_parts(edges: usize, parts: u32, found: usize) -> u32
+    requires some { 0 < parts }
+    requires few { parts ≤ 64 }
+    ensures some { 0 < result }
+    ensures few { result ≤ 64 }
+{
+    if edges > 1 {
+        return 1;
+    }
+    if found > MANY && parts <= 32 {
+        return 2 * parts;
+    }
+    if found < FEW && parts >= 2 {
+        return parts / 2;
+    }
+    parts
+}
+
 // Twice as many edges, where a block may have so many.
 fn more_edges(size: usize) -> usize
     requires { 0 < size }

@@ -8,7 +8,7 @@ mod laws;
 mod parts;
 mod steps;
 
-pub use blocks::{block_end, block_round, block_size, may_reach, next_size};
+pub use blocks::{block_end, block_round, block_size, may_reach, next_parts, next_size};
 pub use extent::Extent;
 pub use laws::{
     boxes_find_reach, close_is_in_reach, close_is_in_steps, in_reach_or_out, only_close_counts,

@@ -19,8 +19,8 @@ use Rattle.lane_kernels.specs.declared.side.Hand.{Hand}
 use Rattle.lane_kernels.specs.Hands.{IsOnSide}
 use Rattle.side_wedge.specs.Obstacles.{IsObstacle, IsConsistentPair}
 use Rattle.grid_exact.specs.Weights.{Scales}
-use Rattle.chain_reach.specs.Reach.{IsInReachBy}
-use Rattle.chain_reach.proofs.Pairs.{only_reach_counts_of_chain}
+use Rattle.chain_reach.specs.Reach.{IsCloseBy}
+use Rattle.chain_reach.proofs.Pairs.{only_close_counts_of_chain}
 use Rattle.side_wedge.specs.Flanks.{Flanks, StandsInRow, IsBesideEdge, IsBeside, HoldsReach, IsNearPair, row_of}
 use Rattle.side_wedge.specs.Rows.{KeepsAll}
 use Rattle.side_wedge.specs.Strays.{RunsAlong}
@@ -89,9 +89,9 @@ over_run frame rising chain i j s p hand runs ij within low high sp pt on = reco
   before = before_later frame rising chain p (s + 1) j runs (omega arith) within pt;
 }
 
--- p is in reach of the chain number k
-abbrev InReach : List Chain → ℕ → Scales → ℤ → Place → Type 0
-InReach chains k weights bound p = IsInReachBy weights.x weights.y bound p (chain_at chains k).first.place (places (chain_at chains k).rest)
+-- p is close to the chain number k
+abbrev IsClose : List Chain → ℕ → Scales → ℤ → Place → Type 0
+IsClose chains k weights bound p = IsCloseBy weights.x weights.y bound p (chain_at chains k).first.place (places (chain_at chains k).rest)
 
 -- ---- from consistent to sides
 
@@ -141,12 +141,12 @@ obstacle_hand chains points k rising b s p h obstacle within sp pt flat =
 
 over_edge_consistent : (chains : List Chain) (points : List Place) (k : ℕ) (rising : Bool) (b : Flanks) (weights : Scales) (bound : ℤ)
     (i j s : ℕ) (p : Place) → IsClearChain chains points k rising b → HoldsReach chains points k weights bound b
-    → InReach chains k weights bound p → IsObstacle chains points k p → KeepsAll b (chain_places (chain_at chains k)) i j → i < j
+    → IsClose chains k weights bound p → IsObstacle chains points k p → KeepsAll b (chain_places (chain_at chains k)) i j → i < j
     → j < length (chain_at chains k).rest + 1 → i ≤ s → s < j
     → IsAlong (chain_at chains k).frame rising (vertex_at (chain_places (chain_at chains k)) s) p
     → IsAlong (chain_at chains k).frame rising p (vertex_at (chain_places (chain_at chains k)) (s + 1))
     → IsConsistentAt (chain_places (chain_at chains k)) i j p
-over_edge_consistent chains points k rising b weights bound i j s p h holds reach obstacle keeps ij within low high sp pt =
+over_edge_consistent chains points k rising b weights bound i j s p h holds close obstacle keeps ij within low high sp pt =
     let frame = (chain_at chains k).frame in
     let chain = chain_places (chain_at chains k) in
     let size = length-chain_places (chain_at chains k) in
@@ -167,20 +167,20 @@ over_edge_consistent chains points k rising b weights bound i j s p h holds reac
         } in
         consistent_by_hand frame rising (vertex_at chain i) (between (i + 1) j chain) (vertex_at chain j) p (vertex_at chain s)
         (vertex_at chain (s + 1)) hand run
-        (elim (holds.all s hand p (omega arith) obstacle beside reach) [
+        (elim (holds.all s hand p (omega arith) obstacle beside close) [
           | inl stands ↦ keeps s low high hand p stands
           | inr beyond ↦ beyond_keeps_hand frame rising chain p s (s + 1) i j hand beyond (omega arith) (omega arith) (omega arith) inside
               sp pt run.past run.before on
         ])
 
 between_consistent : (chains : List Chain) (points : List Place) (k : ℕ) (rising : Bool) (b : Flanks) (weights : Scales) (bound : ℤ) (i j :
-    ℕ) (p : Place) → IsClearChain chains points k rising b → HoldsReach chains points k weights bound b → InReach chains k weights bound p
+    ℕ) (p : Place) → IsClearChain chains points k rising b → HoldsReach chains points k weights bound b → IsClose chains k weights bound p
     → IsObstacle chains points k p → KeepsAll b (chain_places (chain_at chains k)) i j → i < j → j < length (chain_at chains k).rest + 1
     → StandsBetween (chain_at chains k).frame rising (chain_places (chain_at chains k)) p i j
     → IsConsistentAt (chain_places (chain_at chains k)) i j p
-between_consistent chains points k rising b weights bound i j p h holds reach obstacle keeps ij within (OverEdge s low high sp pt) =
-    over_edge_consistent chains points k rising b weights bound i j s p h holds reach obstacle keeps ij within low high sp pt
-between_consistent chains points k rising b weights bound i j p h holds reach obstacle keeps ij within (AtVertex s low high e) =
+between_consistent chains points k rising b weights bound i j p h holds close obstacle keeps ij within (OverEdge s low high sp pt) =
+    over_edge_consistent chains points k rising b weights bound i j s p h holds close obstacle keeps ij within low high sp pt
+between_consistent chains points k rising b weights bound i j p h holds close obstacle keeps ij within (AtVertex s low high e) =
     let c = chain_at chains k in
     let number : s - 1 + 1 ≡ s = omega arith in
     let at : p ≡ (get_or c.rest (s - 1) c.first).place = e ∙ ap (vertex_at (chain_places c)) (sym number)
@@ -188,10 +188,10 @@ between_consistent chains points k rising b weights bound i j p h holds reach ob
     absurd (obstacle_at_vertex chains points k (s - 1) p c.first h.are_chains h.is_beside.edges h.clear obstacle (omega arith) at)
 
 obstacle_consistent : (chains : List Chain) (points : List Place) (k : ℕ) (rising : Bool) (b : Flanks) (weights : Scales) (bound : ℤ) (i j :
-    ℕ) (p : Place) → IsClearChain chains points k rising b → HoldsReach chains points k weights bound b → InReach chains k weights bound p
+    ℕ) (p : Place) → IsClearChain chains points k rising b → HoldsReach chains points k weights bound b → IsClose chains k weights bound p
     → IsObstacle chains points k p → KeepsAll b (chain_places (chain_at chains k)) i j → i < j → j < length (chain_at chains k).rest + 1
     → IsConsistentAt (chain_places (chain_at chains k)) i j p
-obstacle_consistent chains points k rising b weights bound i j p h holds reach obstacle keeps ij within =
+obstacle_consistent chains points k rising b weights bound i j p h holds close obstacle keeps ij within =
     let frame = (chain_at chains k).frame in
     let chain = chain_places (chain_at chains k) in
     let size = length-chain_places (chain_at chains k) in
@@ -201,7 +201,7 @@ obstacle_consistent chains points k rising b weights bound i j p h holds reach o
       | There e ↦ AtStart e
       | Later past ↦
           elim (compared_along frame rising p (vertex_at chain j)) [
-            | Earlier before ↦ between_consistent chains points k rising b weights bound i j p h holds reach obstacle keeps ij within
+            | Earlier before ↦ between_consistent chains points k rising b weights bound i j p h holds close obstacle keeps ij within
                 (stands_between frame rising chain p i j ij past before)
             | There e ↦ AtEnd e
             | Later behind ↦ behind_consistent frame rising (vertex_at chain i) (between (i + 1) j chain) (vertex_at chain j) p way behind
@@ -233,17 +233,17 @@ keeps_sides chains points k b i j are clear beside ij within pair =
     let h = clear_chain chains points k b are clear beside in
     keeps_by_consistent chains points k h.0 b i j h.1 ij within pair
 
--- Where it does, a near pair is consistent: what is out of reach of the chain does not count.
+-- Where it does, a near pair is consistent: what is not close to the chain does not count.
 pub near_consistent : (chains : List Chain) (points : List Place) (k : ℕ) (b : Flanks) (weights : Scales) (bound : ℤ) (i j : ℕ)
     → AreChains chains → IsClearIn chains points k → IsBeside chains points k b → HoldsReach chains points k weights bound b → i < j
     → j < length (chain_at chains k).rest + 1 → IsNearPair weights bound (chain_at chains k) i j
     → KeepsAll b (chain_places (chain_at chains k)) i j → IsConsistentPair chains points k i j
 near_consistent chains points k b weights bound i j are clear beside holds ij within near keeps p obstacle =
     let h = clear_chain chains points k b are clear beside in
-    only_reach_counts_of_chain (chain_at chains k) weights.x weights.y bound i j p holds.weight_across holds.weight_up holds.bound_low
+    only_close_counts_of_chain (chain_at chains k) weights.x weights.y bound i j p holds.weight_across holds.weight_up holds.bound_low
     (are.monotone k) ij (omega arith) near
-    (λ reach. (by_places (chain_at chains k) i j p ij within).0
-    (obstacle_consistent chains points k h.0 b weights bound i j p h.1 holds reach obstacle keeps ij within))
+    (λ close. (by_places (chain_at chains k) i j p ij within).0
+    (obstacle_consistent chains points k h.0 b weights bound i j p h.1 holds close obstacle keeps ij within))
 
 -- what stands beside an edge from the vertex number i on is past it
 pub past_vertex : (chains : List Chain) (points : List Place) (k : ℕ) (b : Flanks) (frame : Frame) (rising : Bool) (chain : List Place)

@@ -13,13 +13,17 @@ use Rattle.sweep_index.specs.declared.index.Item.{Item}
 use Rattle.arc_map.specs.Work.{Work}
 use Rattle.map_index.specs.IndexedMap.{AreItemsIn}
 use Rattle.chain_reach.specs.Extents.{IsInBox}
-use Rattle.chain_reach.specs.Steps.{IsNearEdge, IsNearSomeEdge}
+use Rattle.chain_reach.specs.Steps.{IsNearSegment, IsNearEdge, IsNearSomeEdge}
+use Rattle.chain_reach.specs.Parts.{IsInPart, AreFoundInPart}
+use Rattle.chain_reach.proofs.Parting.{part_of}
 use Rattle.chain_reach.specs.declared.steps.Steps.{Steps}
 use Rattle.chain_reach.specs.declared.extent.Extent.{Extent}
 use Rattle.side_wedge.specs.Strays.{RunsAlong, IsOverEdge, IsStrayItem, IsStrayOf, stray}
 use Rattle.chain_reach.specs.Blocks.{AreFoundIn}
 use Rattle.chain_reach.proofs.Numbered.{near_in_part}
-use Rattle.side_wedge.specs.Gathered.{IsFrom, AreStraysOf, AreStraysTo, AreMapStrays}
+use Rattle.side_wedge.specs.Gathered.{IsFrom, AreStraysOf, AreStraysTo, AreStraysInParts, AreMapStrays}
+use Rattle.side_wedge.specs.Flanks.{IsBeyond}
+use Rattle.map_index.specs.Items.{Owns}
 use Rattle.side_wedge.specs.declared.strays.Stray.{Stray}
 use Rattle.chain_side.specs.Along.{vertex_at}
 use Rattle.side_wedge.proofs.Closed.{not_itself}
@@ -193,6 +197,79 @@ block_taken frame rising chain k steps w whole block start end found old new ite
             ]
       ];
 }
+
+-- ---- part after part of an edge
+
+pub no_parts_taken : (frame : Frame) (rising : Bool) (chain : List Place) (k : ℕ) (steps : Steps) (w : Work) (edge parts : ℕ) (strays :
+    List Stray) → AreStraysTo frame rising chain k steps w edge strays → AreStraysInParts frame rising chain k steps w edge parts 0 strays
+no_parts_taken frame rising chain k steps w edge parts strays to =
+    record { before = to; all = λ part item s hand below owned runs is near at. absurd (omega arith) }
+
+pub part_taken : (frame : Frame) (rising : Bool) (chain : List Place) (k : ℕ) (steps : Steps) (w : Work) (whole block : Extent)
+    (edge end parts count : ℕ) (a b : Place) (found : List (ℕ × Item)) (old new : List Stray) → AreItemsIn w block.low block.high found
+    → AreFoundInPart a b parts count steps whole block → a ≡ vertex_at chain edge → b ≡ vertex_at chain (edge + 1) → end ≡ edge + 1
+    → All (IsInBox whole.low whole.high) chain → end < length chain
+    → AreStraysOf frame rising chain k steps (take (end + 1 - edge) (drop edge chain)) old found new
+    → AreStraysInParts frame rising chain k steps w edge parts count old → AreStraysInParts frame rising chain k steps w edge parts (count + 1) new
+part_taken frame rising chain k steps w whole block edge end parts count a b found old new items in_block first second next box within taken to =
+    record {
+      before = record {
+        only = λ x has.
+            elim (taken.only x has) [
+              | inl early ↦ to.before.only x early
+              | inr f ↦ record { item = f.item; owned = items.only f.number f.item f.found_item; is = f.is }
+            ];
+        all = λ e item s hand below owned runs is near. kept item s hand (to.before.all e item s hand below owned runs is near);
+      };
+      all = λ part item s hand below owned runs is near at.
+          elim (cases_lt part count) [
+            | inl less ↦ kept item s hand (to.all part item s hand less owned runs is near at)
+            | inr low ↦
+                let same : part ≡ count = omega arith in
+                elim (in_box_or_beyond whole.low whole.high item.at chain box) [
+                  | inl inside ↦
+                      let at_count = subst (λ (n : ℕ). IsInPart near.denominator near.numerator parts n) same at in
+                      let there = items.all item.owner item.at owned
+                      (in_box_tested block.low block.high item.at (by_vertices item.at near at_count inside)) in
+                      inl (taken.all there.0 item s hand there.1 runs is
+                      (near_in_part steps chain item.at edge end edge within (omega arith) (omega arith) near))
+                  | inr beyond ↦ inr beyond
+                ]
+          ];
+    }
+  where
+    kept : (item : Item) (s : ℕ) (hand : Hand) → Contains old (stray s hand item.at) ⊎ IsBeyond chain item.at
+        → Contains new (stray s hand item.at) ⊎ IsBeyond chain item.at
+    kept item s hand (inl has) = inl (taken.kept (stray s hand item.at) has)
+    kept item s hand (inr beyond) = inr beyond
+
+    by_vertices : (p : Place) (near : IsNearEdge steps chain p edge) → IsInPart near.denominator near.numerator parts count
+        → IsInBox whole.low whole.high p → IsInBox block.low block.high p
+    by_vertices = subst (λ (u : Place). (p : Place) (near : IsNearSegment steps u (vertex_at chain (edge + 1)) p)
+        → IsInPart near.denominator near.numerator parts count → IsInBox whole.low whole.high p → IsInBox block.low block.high p) first
+        (subst (λ (v : Place). (p : Place) (near : IsNearSegment steps a v p) → IsInPart near.denominator near.numerator parts count
+        → IsInBox whole.low whole.high p → IsInBox block.low block.high p) second in_block)
+
+pub parts_taken : (frame : Frame) (rising : Bool) (chain : List Place) (k : ℕ) (steps : Steps) (w : Work) (edge end parts : ℕ) (strays :
+    List Stray) → 0 < parts → end ≡ edge + 1 → AreStraysInParts frame rising chain k steps w edge parts parts strays
+    → AreStraysTo frame rising chain k steps w end strays
+parts_taken frame rising chain k steps w edge end parts strays some next in_parts = record {
+  only = in_parts.before.only;
+  all = λ e item s hand below owned runs is near.
+      elim (cases_lt e edge) [
+        | inl less ↦ in_parts.before.all e item s hand less owned runs is near
+        | inr low ↦
+            let same : e ≡ edge = omega arith in
+            at_edge item s hand owned runs is (subst (λ (n : ℕ). IsNearEdge steps chain item.at n) same near)
+      ];
+}
+  where
+    at_edge : (item : Item) (s : ℕ) (hand : Hand) → Owns w.chains w.read.points item.owner item.at → RunsAlong frame rising chain
+        → IsStrayItem frame rising chain k item s hand → IsNearEdge steps chain item.at edge
+        → Contains strays (stray s hand item.at) ⊎ IsBeyond chain item.at
+    at_edge item s hand owned runs is near =
+        let part = part_of near.denominator near.numerator parts near.whole near.from_start near.to_end some in
+        in_parts.all part.0 item s hand part.1 owned runs is near part.2
 
 pub all_taken : (frame : Frame) (rising : Bool) (chain : List Place) (k : ℕ) (steps : Steps) (w : Work) (upto : ℕ) (strays : List Stray)
     → length chain ≤ upto + 1 → AreStraysTo frame rising chain k steps w upto strays → AreMapStrays frame rising chain k steps w strays

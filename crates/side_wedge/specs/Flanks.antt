@@ -13,7 +13,7 @@ use Rattle.lane_kernels.specs.Places.{place_at}
 use Rattle.arc_map.specs.Vertices.{places}
 use Rattle.arc_map.specs.Chains.{Chain, chain_at, chain_places, IsWithinBound}
 use Rattle.arc_map.specs.Paths.{vertices_of, vertex_at as vertex_number}
-use Rattle.chain_reach.specs.Reach.{IsInReachBy}
+use Rattle.chain_reach.specs.Reach.{IsCloseBy}
 use Rattle.side_wedge.specs.Obstacles.{IsObstacle}
 
 -- the places beside the edges of a chain, by their coordinates, in rows, with the number of the first place of each row; the frame
@@ -65,7 +65,7 @@ pub record IsBeside (chains : List Chain) (points : List Place) (k : ℕ) (b : F
   -- each chain of the map has an edge
   pub edges : All (λ chain. 0 < length chain.rest) chains
 
--- of the obstacles in reach of the chain number k with these weights and this bound, each that is beside an edge stands in the
+-- of the obstacles close to the chain number k with these weights and this bound, each that is beside an edge stands in the
 -- edge's row, unless it is beyond the chain
 pub record HoldsReach (chains : List Chain) (points : List Place) (k : ℕ) (weights : Scales) (bound : ℤ) (b : Flanks) : Type 0 where
   pub weight_across : pos 1 ≤ℤ weights.x
@@ -73,7 +73,7 @@ pub record HoldsReach (chains : List Chain) (points : List Place) (k : ℕ) (wei
   pub bound_low : pos 0 ≤ℤ bound
   pub all : (s : ℕ) (hand : Hand) (p : Place) → s < length (chain_at chains k).rest → IsObstacle chains points k p
       → IsBesideEdge (chain_at chains k).frame (chain_places (chain_at chains k)) s hand p
-      → IsInReachBy weights.x weights.y bound p (chain_at chains k).first.place (places (chain_at chains k).rest)
+      → IsCloseBy weights.x weights.y bound p (chain_at chains k).first.place (places (chain_at chains k).rest)
       → StandsInRow b (row_of s hand) p ⊎ IsBeyond (chain_places (chain_at chains k)) p
 
 -- the vertices of the chain between those number i and j are within the bound of the segment between the two

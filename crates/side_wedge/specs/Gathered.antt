@@ -7,6 +7,7 @@ use Rattle.sweep_index.specs.declared.index.Item.{Item}
 use Rattle.arc_map.specs.Work.{Work}
 use Rattle.map_index.specs.Items.{Owns}
 use Rattle.chain_reach.specs.Steps.{IsNearEdge, IsNearSomeEdge}
+use Rattle.chain_reach.specs.Parts.{IsInPart}
 use Rattle.chain_reach.specs.declared.steps.Steps.{Steps}
 use Rattle.side_wedge.specs.Flanks.{IsBeyond}
 use Rattle.side_wedge.specs.Strays.{RunsAlong, IsStrayItem, IsStrayOf, stray}
@@ -41,6 +42,15 @@ pub record AreStraysTo (frame : Frame) (rising : Bool) (chain : List Place) (k :
   pub all : (edge : ℕ) (item : Item) (s : ℕ) (hand : Hand) → edge < upto → Owns w.chains w.read.points item.owner item.at
       → RunsAlong frame rising chain → IsStrayItem frame rising chain k item s hand → IsNearEdge steps chain item.at edge
       → Contains strays (stray s hand item.at) ⊎ IsBeyond chain item.at
+
+-- these are strays among the items of the map: each at least that is near an edge before the edge number `edge`, or near this one at a
+-- place of its first `count` of so many equal parts, and not beyond the chain
+pub record AreStraysInParts (frame : Frame) (rising : Bool) (chain : List Place) (k : ℕ) (steps : Steps) (w : Work) (edge parts count :
+    ℕ) (strays : List Stray) : Type 0 where
+  pub before : AreStraysTo frame rising chain k steps w edge strays
+  pub all : (part : ℕ) (item : Item) (s : ℕ) (hand : Hand) → part < count → Owns w.chains w.read.points item.owner item.at
+      → RunsAlong frame rising chain → IsStrayItem frame rising chain k item s hand → (near : IsNearEdge steps chain item.at edge)
+      → IsInPart near.denominator near.numerator parts part → Contains strays (stray s hand item.at) ⊎ IsBeyond chain item.at
 
 -- these are strays among the items of the map: each at least that is near an edge, and not beyond the chain
 pub record AreMapStrays (frame : Frame) (rising : Bool) (chain : List Place) (k : ℕ) (steps : Steps) (w : Work) (strays : List Stray) :

@@ -8,11 +8,13 @@ ghost use Rattle.sweep_index.specs.Walk.{items_left};
 ghost use Rattle.map_index.specs.IndexedMap.{items_in};
 ghost use Rattle.chain_reach.specs.Extents.{IsInBox};
 ghost use Rattle.chain_reach.specs.Steps.{IsNearSomeEdge};
-ghost use Rattle.side_wedge.specs.Gathered.{AreStraysOf, AreStraysTo, AreMapStrays};
+ghost use Rattle.side_wedge.specs.Gathered.{AreStraysOf, AreStraysTo, AreStraysInParts};
+ghost use Rattle.side_wedge.specs.Gathered.{AreMapStrays};
 ghost use Rattle.side_wedge.specs.Strays.{RunsAlong, IsStrayItem, IsStrayOf, stray};
 
 use crate::strays::{Stray, stray_of};
-use chain_reach::{Extent, Steps, block_end, block_round, block_size, may_reach, next_size};
+use chain_reach::{Extent, Steps, block_end, block_round, block_size, may_reach};
+use chain_reach::{next_parts, next_size, part_round};
 use grid_exact::{Direction, Point};
 use map_index::{IndexedMap, is_other};
 use sweep_index::{Item, Walk};
@@ -89,16 +91,91 @@ fn take_blocks(
     strays.clear();
     let mut start = 0;
     let mut edges = size;
+    let mut parts = 1;
     let mut found = 0;
     while start + 1 < subject.chain.len() {
-        edges = next_size(subject.chain, start, edges, found, subject.steps, whole);
-        let end = block_end(subject.chain, start, edges);
-        if !take_block(strays, &mut found, subject, map, whole, start, end) {
+        edges = edges_of(subject, start, edges, parts, found, whole);
+        parts = next_parts(edges, parts, found);
+        let end = end_of(subject.chain, start, edges, parts);
+        if !take_next(strays, &mut found, subject, map, whole, start, end, parts) {
             return false;
         }
         start = end;
     }
     true
+}
+
+// How many edges to look round at once from the vertex number `start` on: as many as before, where
+// one was cut in parts.
+fn edges_of(
+    subject: &Subject<'_>,
+    start: usize,
+    edges: usize,
+    parts: u32,
+    found: usize,
+    whole: &Extent,
+) -> usize
+    requires start { start + 1 < length subject.now.chain.now }
+    requires edges { 0 < edges }
+    ensures { 0 < result }
+{
+    if parts > 1 {
+        return edges;
+    }
+    next_size(subject.chain, start, edges, found, subject.steps, whole)
+}
+
+// The number of the last vertex of what is looked round from the vertex number `start` on: of one
+// edge, where it is cut in parts, else of a block.
+fn end_of(chain: &[Point], start: usize, edges: usize, parts: u32) -> usize
+    requires start { start + 1 < length chain.now }
+    requires edges { 0 < edges }
+    ensures past { start < result }
+    ensures within { result < length chain.now }
+    ensures alone { 1 < parts → result ≡ start + 1 }
+{
+    if parts > 1 {
+        return start + 1;
+    }
+    block_end(chain, start, edges)
+}
+
+// Takes what is near the edges from the vertex number `start` to the number `end`, or near the one
+// edge that they are, cut in parts, where there are several. Leaves in `found` how many items were
+// found, on the average, each time; false where there is no room.
+fn take_next(
+    strays: &mut Vec<Stray>,
+    found: &mut usize,
+    subject: &Subject<'_>,
+    map: &IndexedMap,
+    whole: &Extent,
+    start: usize,
+    end: usize,
+    parts: u32,
+) -> bool
+    requires several { 2 ≤ length subject.now.chain.now }
+    requires short { length subject.now.chain.now ≤ 1024 }
+    requires room { items_in map.now ≤ vec_capacity strays.old }
+    requires count { vec_len strays.old ≤ items_in map.now }
+    requires round { All (IsInBox whole.now.low whole.now.high) subject.now.chain.now }
+    requires order { start < end }
+    requires within { end < length subject.now.chain.now }
+    requires alone { 1 < parts → end ≡ start + 1 }
+    requires few { parts ≤ 64 }
+    ensures strays { IsTrue result
+        → AreStraysTo subject.now.direction.frame subject.now.direction.rising subject.now.chain.now
+        subject.now.number
+        subject.now.steps map.now start strays.old.items
+        → AreStraysTo subject.now.direction.frame subject.now.direction.rising subject.now.chain.now
+        subject.now.number
+        subject.now.steps map.now end strays.new.items }
+    ensures count { vec_len strays.new ≤ items_in map.now }
+    ensures capacity { vec_capacity strays.new ≡ vec_capacity strays.old }
+{
+    if parts > 1 {
+        return take_parts(strays, found, subject, map, whole, start, end, parts);
+    }
+    take_block(strays, found, subject, map, whole, start, end)
 }
 
 // Takes what is near the edges from the vertex number `start` to the number `end`, and leaves in
@@ -138,6 +215,97 @@ fn take_block(
         part,
         map.item_count(),
         map.in_box(block.low, block.high),
+    )
+}
+
+// Takes what is near the edge from the vertex number `start` to the number `end`, found part after
+// part. Leaves in `found` how many items are in the box of a part on the average; false where there
+// is no room.
+fn take_parts(
+    strays: &mut Vec<Stray>,
+    found: &mut usize,
+    subject: &Subject<'_>,
+    map: &IndexedMap,
+    whole: &Extent,
+    start: usize,
+    end: usize,
+    parts: u32,
+) -> bool
+    requires several { 2 ≤ length subject.now.chain.now }
+    requires short { length subject.now.chain.now ≤ 1024 }
+    requires room { items_in map.now ≤ vec_capacity strays.old }
+    requires count { vec_len strays.old ≤ items_in map.now }
+    requires round { All (IsInBox whole.now.low whole.now.high) subject.now.chain.now }
+    requires next { end ≡ start + 1 }
+    requires within { end < length subject.now.chain.now }
+    requires some { 0 < parts }
+    requires few { parts ≤ 64 }
+    ensures strays { IsTrue result
+        → AreStraysTo subject.now.direction.frame subject.now.direction.rising subject.now.chain.now
+        subject.now.number
+        subject.now.steps map.now start strays.old.items
+        → AreStraysTo subject.now.direction.frame subject.now.direction.rising subject.now.chain.now
+        subject.now.number
+        subject.now.steps map.now end strays.new.items }
+    ensures count { vec_len strays.new ≤ items_in map.now }
+    ensures capacity { vec_capacity strays.new ≡ vec_capacity strays.old }
+{
+    let mut all: usize = 0;
+    for part in 0..parts {
+        if !take_part(strays, found, subject, map, whole, start, end, parts, part) {
+            return false;
+        }
+        all = all.saturating_add(*found);
+    }
+    *found = all / parts as usize;
+    true
+}
+
+// Takes what is near the edge at a place of the part number `part`, and leaves in `found` how many
+// items are in the box of the part; false where there is no room.
+fn take_part(
+    strays: &mut Vec<Stray>,
+    found: &mut usize,
+    subject: &Subject<'_>,
+    map: &IndexedMap,
+    whole: &Extent,
+    start: usize,
+    end: usize,
+    parts: u32,
+    part: u32,
+) -> bool
+    requires several { 2 ≤ length subject.now.chain.now }
+    requires short { length subject.now.chain.now ≤ 1024 }
+    requires room { items_in map.now ≤ vec_capacity strays.old }
+    requires count { vec_len strays.old ≤ items_in map.now }
+    requires round { All (IsInBox whole.now.low whole.now.high) subject.now.chain.now }
+    requires next { end ≡ start + 1 }
+    requires within { end < length subject.now.chain.now }
+    requires part { part < parts }
+    requires few { parts ≤ 64 }
+    ensures strays { IsTrue result
+        → AreStraysInParts subject.now.direction.frame subject.now.direction.rising
+        subject.now.chain.now
+        subject.now.number
+        subject.now.steps map.now start parts part strays.old.items
+        → AreStraysInParts subject.now.direction.frame subject.now.direction.rising
+        subject.now.chain.now
+        subject.now.number
+        subject.now.steps map.now start parts (part + 1) strays.new.items }
+    ensures count { vec_len strays.new ≤ items_in map.now }
+    ensures capacity { vec_capacity strays.new ≡ vec_capacity strays.old }
+{
+    let first = subject.chain[start];
+    let second = subject.chain[end];
+    let round = part_round(first, second, parts, part, subject.steps, whole);
+    let edge = &subject.chain[start..end + 1];
+    collect(
+        strays,
+        found,
+        subject,
+        edge,
+        map.item_count(),
+        map.in_box(round.low, round.high),
     )
 }
 

@@ -9,6 +9,8 @@ loop-start-init c =
     record {
       within = omega (arith, c.requires.several);
       some_edges = c.requires.size;
+      some_parts = omega arith;
+      few_parts = omega arith;
       taken = none_taken s.direction.frame s.direction.rising s.chain.now s.number s.steps c.args.map.now c.clear.new.self.items
           (search rules);
       count = search rules;
@@ -17,11 +19,13 @@ loop-start-init c =
 
 pub loop-start-preserved : goal.loop-start-preserved
 loop-start-preserved c = record {
-  within = c.block_end-end.ensures.within;
-  some_edges = c.next_size-edges.ensures;
-  taken = c.take_block.ensures.strays c.if-not-take_block.false c.loop-start.invariant.taken;
-  count = c.take_block.ensures.count;
-  capacity = c.take_block.ensures.capacity ∙ c.loop-start.invariant.capacity;
+  within = c.end_of-end.ensures.within;
+  some_edges = c.edges_of-edges.ensures;
+  some_parts = c.next_parts-parts.ensures.some;
+  few_parts = c.next_parts-parts.ensures.few;
+  taken = c.take_next.ensures.strays c.if-not-take_next.false c.loop-start.invariant.taken;
+  count = c.take_next.ensures.count;
+  capacity = c.take_next.ensures.capacity ∙ c.loop-start.invariant.capacity;
 }
 
 pub returns-clause-strays : goal.returns-clause-strays
@@ -29,3 +33,9 @@ returns-clause-strays c t =
     let s = c.args.subject.now in
     all_taken s.direction.frame s.direction.rising s.chain.now s.number s.steps c.args.map.now c.loop-start.start c.loop-start.strays.items
     (omega (arith, c.loop-start-test.false)) c.loop-start.invariant.taken
+
+pub next_parts-parts-requires-clause-some : goal.next_parts-parts-requires-clause-some
+next_parts-parts-requires-clause-some c = c.loop-start.invariant.some_parts
+
+pub next_parts-parts-requires-clause-few : goal.next_parts-parts-requires-clause-few
+next_parts-parts-requires-clause-few c = c.loop-start.invariant.few_parts

@@ -8,6 +8,8 @@ abbrev pub invariant-loop-start : goal.invariant-loop-start
 invariant-loop-start l = record {
   within : l.start < length l.subject.chain.now;
   some_edges : 0 < l.edges;
+  some_parts : 0 < l.parts;
+  few_parts : l.parts ≤ 64;
   taken : AreStraysTo l.subject.direction.frame l.subject.direction.rising l.subject.chain.now l.subject.number l.subject.steps l.map
       l.start l.strays.items;
   count : vec_len l.strays ≤ items_in l.map;
