@@ -8,7 +8,7 @@ use Rattle.side_wedge.proofs.ByEdges.{consistency_by_edges_lem}
 use Rattle.shortcut_graph.specs.Pairs.{AllowedBy}
 use Rattle.shortcut_graph.proofs.AllowedPairs.{allowed_pair}
 use Rattle.shortcut_graph.proofs.Numbers.{length-chain_places}
-use Rattle.shortcut_graph.proofs.Searching.{first_alike, no_higher}
+use Rattle.shortcut_graph.proofs.Searching.{first_alike}
 use Rattle.shortcut_graph.proofs.layers.lay.Goals as goal
 
 pub loop-start-init : goal.loop-start-init
