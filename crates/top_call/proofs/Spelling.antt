@@ -12,7 +12,7 @@ use Rattle.top_call.specs.declared.forms.Options.{Options}
 use Rattle.top_call.specs.declared.words.Task.{Task}
 use Rattle.top_call.specs.declared.words.Task.TheVariants as tasks
 use Rattle.top_call.specs.Words.{Form, Simplify, Layers, Check, Faces, Make, Demo, Dissolve, Build, Pyramid, read_digits}
-use Rattle.top_call.specs.Words.{between, number_between, bound_of, weights_of, is_name, are_names, named_form, bounded_form}
+use Rattle.top_call.specs.Words.{between, number_between, bound_of, weights_of, is_name, are_names, named_form, bounded_form, weighed_form}
 use Rattle.top_call.specs.Words.{held_form}
 use Rattle.top_call.specs.Words.{task_form, faces_form, make_form, demo_form, dissolve_form, build_form, pyramid_form, is_polygon_list}
 use Rattle.top_call.specs.Words.{polygons_in, is_bound_list, bounds_in, command_form, form_of}
@@ -41,11 +41,28 @@ bound_found (pos n) h = let high : n ≤ 2 ^ 30 =
     omega (arith, ints, h.high) in rw (number_found 0 (2 ^ 30) n (omega arith) (omega arith) high) refl
 bound_found (negsuc n) h = absurd (omega (arith, ints, h.low))
 
+weight_in_range : (word : List ℕ) (n : ℕ) → number_between 1 65536 word ≡ Some n → IsWeight (pos n)
+weight_in_range word n e =
+    let range = number_in_range 1 65536 word n e in
+    let low : 1 ≤ n = range.0 in
+    let high : n ≤ 65536 = range.1 in
+    record { low = omega (arith, ints); high = omega (arith, ints) }
+
 -- the weights that were read are those that the words spell
 pub record AreSpelled (wx wy : List ℕ) (w : Scales) : Type 0 where
   pub across : wx ≡ digits w.x
   pub up : wy ≡ digits w.y
   pub weights : IsWeight w.x × IsWeight w.y
+
+weights_made : (wx wy : List ℕ) (w : Scales) → weights_of wx wy ≡ Some w → AreSpelled wx wy w
+weights_made wx wy w e =
+    option_and_then_some _ (number_between 1 65536 wx) w e λ x x_is e_x.
+    let found = mapped_some (λ y. record { x = pos x; y = pos y }) (number_between 1 65536 wy) w e_x in
+    subst (λ (v : Scales). AreSpelled wx wy v) found.2 (record {
+      across = number_spelled 1 65536 wx x (omega arith) x_is;
+      up = number_spelled 1 65536 wy found.0 (omega arith) found.1;
+      weights = (weight_in_range wx x x_is, weight_in_range wy found.0 found.1);
+    })
 
 weight_found : (z : ℤ) → IsWeight z → (n : ℕ) × (z ≡ pos n) × (number_between 1 65536 (digits z) ≡ Some n)
 weight_found (pos n) h =
@@ -118,6 +135,17 @@ bounded_made task options (word ∷ names) f w e =
     option_and_then_some (λ (z : ℤ). named_form task options z names) (bound_of word) f e λ z z_is e_z.
     let bound = bound_made word z z_is in
     rw bound.0 (named_made task options z names f w bound.1 e_z)
+
+weighed_made : (task : Task) (hold : Bool) (words : List (List ℕ)) (f : Form) → weighed_form task hold words ≡ Some f
+    → IsSpelled (command_of task ∷ (hold_words hold ++ codes "--weights" ∷ words)) f
+weighed_made task hold [] f e = absurd (none-some f e)
+weighed_made task hold (wx ∷ []) f e = absurd (none-some f e)
+weighed_made task hold (wx ∷ wy ∷ words) f e =
+    option_and_then_some (λ (w : Scales). bounded_form task (record { hold = hold; weights = Some w }) words)
+    (weights_of wx wy) f e λ w w_is e_w.
+    let made = weights_made wx wy w w_is in
+    let rest = bounded_made task (record { hold = hold; weights = Some w }) words f made.weights e_w in
+    rw (made.across, made.up) (behind task hold (codes "--weights" ∷ digits w.x ∷ digits w.y ∷ []) words f rest)
 
 held_made : (task : Task) (hold : Bool) (words : List (List ℕ)) (f : Form) → held_form task hold words ≡ Some f
     → IsSpelled (command_of task ∷ (hold_words hold ++ words)) f
