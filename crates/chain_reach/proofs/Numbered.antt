@@ -1,7 +1,7 @@
 -- What is close to a walk is near an edge with a number, and in the grown box round the walk.
 use mir.Val.{SFits}
-use Rattle.std.proofs.Common.{Option, Some, IfSome, w64, to_z, of_z, ◌≡◌, ◌⊎◌, inl, inr, ℕ, suc, ◌+◌, ◌-◌, ◌*◌, ◌<◌, ◌≤◌, ◌↔◌, Bool, true}
-use Rattle.std.proofs.Common.{IsTrue, List, [], ◌∷◌, length, get_or, take, drop, ℤ, pos, ◌+ℤ◌, ◌*ℤ◌, ◌≤ℤ◌, ◌<ℤ◌, refl, sym, ap, ◌∙◌, subst}
+use Rattle.std.proofs.Common.{Option, Some, IfSome, w64, to_z, of_z, ◌≡◌, ◌⊎◌, inl, inr, ℕ, suc, ◌+◌, ◌-◌, ◌*◌, ◌<◌, ◌≤◌, ◌↔◌, true}
+use Rattle.std.proofs.Common.{IsTrue, List, [], ◌∷◌, length, get_or, take, drop, ℤ, pos, ◌+ℤ◌, ◌≤ℤ◌, refl, sym, ap, ◌∙◌, subst}
 use Rattle.std.proofs.Common.{arith}
 use Rattle.std.specs.Prelude.{All, false}
 use Rattle.std.proofs.lemmas.Bool.{false≢true, cases_lt}

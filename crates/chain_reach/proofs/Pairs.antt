@@ -24,7 +24,7 @@ use Rattle.arc_map.specs.Chains.{Chain}
 use Rattle.arc_map.specs.Paths.{vertices_of, vertex_at}
 use Rattle.arc_map.specs.Arranged.{nowhere}
 use Rattle.arc_map.specs.Allowed.IsConsistent.{AtStart, AtEnd, SameSide}
-use Rattle.chain_reach.specs.Reach.{IsBeyond, IsInGrownBox, IsOutOfReachBy, IsInReachBy}
+use Rattle.chain_reach.specs.Reach.{IsBeyond, IsInGrownBox}
 use Rattle.chain_reach.specs.Reach.{IsUnder, IsCloseToSegment, IsCloseBy}
 use Rattle.chain_reach.specs.Reach.IsBeyond.{LeftOf, RightOf, Under, Over}
 use Rattle.chain_reach.specs.Laws.{InReachOrOut, OnlyReachCounts, OnlyReachCountsOfChain, ReachIsInSteps}

@@ -105,11 +105,14 @@ part_up_to n i parts (suc (suc c)) whole low up some =
     elim (at_most_or_above (pos parts *ℤ i) (pos (suc c) *ℤ n)) [
       | inl h ↦ let before = part_up_to n i parts (suc c) whole low h (omega arith) in (before.0, omega (arith, before.1), before.2)
       | inr h ↦
-          let next : suc c + 1 ≡ suc (suc c) = omega arith in
-          (suc c, omega arith, record {
-            from_start = omega (arith, sums);
-            to_end = subst (λ (k : ℕ). (pos parts *ℤ i) ≤ℤ (pos k *ℤ n)) (sym next) up;
-          })
+          let next : suc c + 1 ≡ suc (suc c) = omega arith in (
+            suc c,
+            omega arith,
+            record {
+              from_start = omega (arith, sums);
+              to_end = subst (λ (k : ℕ). (pos parts *ℤ i) ≤ℤ (pos k *ℤ n)) (sym next) up;
+            },
+          )
     ]
 
 pub part_of : (n i : ℤ) (parts : ℕ) → pos 1 ≤ℤ n → pos 0 ≤ℤ i → i ≤ℤ n → 0 < parts → (part : ℕ) × (part < parts) × IsInPart n i parts part

@@ -2,7 +2,7 @@
 use Rattle.std.proofs.Common.{◌≡◌, ◌⊎◌, inl, inr, [], ◌∷◌, ℤ, pos, ◌+ℤ◌, ◌-ℤ◌, ◌*ℤ◌, ◌≤ℤ◌, ◌<ℤ◌, refl, sym, ap, subst, ◌∙◌, arith}
 use Rattle.grid_exact.specs.Geometry.{Place, area_of, length2_of}
 use Rattle.grid_exact.proofs.WholeLaws.{sums}
-use Rattle.grid_exact.proofs.Signs.{Negative, Zero, Positive, sign_of, at_most_or_above, times_nonnegative, times_positive, positive_from_times}
+use Rattle.grid_exact.proofs.Signs.{at_most_or_above, times_nonnegative, times_positive, positive_from_times}
 use Rattle.grid_exact.proofs.Polynomial.{Whole, ◌⊕◌, ◌⊖◌, ◌⊗◌, ◌≈◌, ◌times◌, Variable, by_identity, by_multiples, identity_1, identity_2}
 use Rattle.grid_exact.proofs.Polynomial.{identity_3, identity_4, identity_5, identity_6}
 use Rattle.chain_reach.specs.Reach.{ahead_of, IsUnder, IsBySegment, IsInGrownBox}

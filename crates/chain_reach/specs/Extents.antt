@@ -1,5 +1,5 @@
 -- Closed boxes, by their lowest and their highest corner.
-use Rattle.std.specs.Prelude.{ℕ, pos, ◌+ℤ◌, ◌≤ℤ◌}
+use Rattle.std.specs.Prelude.{pos, ◌≤ℤ◌}
 use Rattle.grid_exact.specs.Geometry.{Place}
 use Rattle.chain_reach.specs.Reach.{IsHeldBy}
 use Rattle.chain_reach.specs.declared.steps.Steps.{Steps}

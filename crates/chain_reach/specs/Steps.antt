@@ -1,5 +1,5 @@
 -- Reach in whole steps of the grid.
-use Rattle.std.specs.Prelude.{◌≤◌, ◌<◌, ◌+◌, ℕ, ℤ, pos, ◌+ℤ◌, ◌*ℤ◌, ◌≤ℤ◌, ◌<ℤ◌, List, length, slice_index_or}
+use Rattle.std.specs.Prelude.{◌<◌, ◌+◌, ℕ, ℤ, pos, ◌+ℤ◌, ◌*ℤ◌, ◌≤ℤ◌, ◌<ℤ◌, List, length}
 use Rattle.grid_exact.specs.Geometry.{Place}
 use Rattle.chain_side.specs.Along.{vertex_at}
 use Rattle.chain_reach.specs.Reach.{IsInGrownBox, IsBySegment}

@@ -9,14 +9,7 @@ use grid_exact::Point;
 
 /// The box round the part number `part` of the segment ab, which is cut in so many equal parts,
 /// grown by the steps, as far as the box `whole` goes.
-pub fn part_round(
-    a: Point,
-    b: Point,
-    parts: u32,
-    part: u32,
-    steps: Steps,
-    whole: &Extent,
-) -> Extent
+pub fn part_round(a: Point, b: Point, parts: u32, part: u32, steps: Steps, whole: &Extent) -> Extent
     requires within { part < parts }
     requires few { parts ≤ 64 }
     ensures { AreFoundInPart a b parts part steps whole.now result }

@@ -1,5 +1,5 @@
 -- A place beyond a chain on one axis is on one hand of each way along the chain that spans it.
-use Rattle.std.proofs.Common.{◌≡◌, ℕ, ◌<◌, Bool, true, false, List, length, pos, ◌+ℤ◌, ◌-ℤ◌, ◌*ℤ◌, ◌≤ℤ◌, ◌<ℤ◌, refl, subst, arith}
+use Rattle.std.proofs.Common.{◌≡◌, ℕ, ◌<◌, Bool, true, false, List, length, pos, ◌-ℤ◌, ◌*ℤ◌, ◌≤ℤ◌, ◌<ℤ◌, subst, arith}
 use Rattle.std.specs.Prelude.{All}
 use Rattle.grid_exact.specs.Geometry.{Place, turned, area_of, IsBefore}
 use Rattle.grid_exact.specs.Geometry.IsBefore.{Left as Across, Below as Up}
@@ -7,7 +7,6 @@ use Rattle.grid_exact.specs.declared.frame.Frame.{Frame}
 use Rattle.grid_exact.specs.declared.frame.Frame.TheVariants.{Plain, Turned}
 use Rattle.grid_exact.proofs.WholeLaws.{sums}
 use Rattle.grid_exact.proofs.Signs.{times_nonnegative, times_positive, nonnegative_times_nonpositive, times_negative}
-use Rattle.grid_exact.proofs.Polynomial.{◌⊕◌, ◌⊖◌, ◌⊗◌, ◌≈◌, identity_6}
 use Rattle.grid_exact.proofs.Orders.{up_to}
 use Rattle.grid_exact.proofs.Areas.{area_of-turned, area_turned, area_parts}
 use Rattle.chain_side.specs.Along.{IsAlong, vertex_at}

@@ -1,12 +1,11 @@
 -- The box round places, and what is outside it.
 use Rattle.std.proofs.Common.{◌≡◌, ◌⊎◌, inl, inr, true, List, ℤ, w64, to_z, of_z, sym, subst, arith}
 use Rattle.std.specs.Prelude.{All}
-use Rattle.std.specs.Int.{int_min, int_max}
 use Rattle.std.proofs.lemmas.Int.{to_z-of_z}
 use Rattle.grid_exact.specs.Geometry.{Place, IsGridNumber}
 use Rattle.grid_exact.proofs.WholeLaws.{sums}
 use Rattle.grid_exact.proofs.Signs.{at_most_or_above}
-use Rattle.grid_exact.proofs.Orders.{lt_yes, lt_no, le_yes}
+use Rattle.grid_exact.proofs.Orders.{le_yes}
 use Rattle.lane_kernels.proofs.LaneSizes.{grid_fits}
 use Rattle.sweep_index.specs.Box.{is_in_box}
 use Rattle.chain_reach.specs.Extents.{IsInBox}

@@ -1,8 +1,6 @@
 -- The consistency part of a pair, by obstacles and by edges.
 use Rattle.std.proofs.Common.{inl, inr, ℕ, suc, ◌<◌, List, [], ◌∷◌, length, ap, subst, arith}
 use Rattle.std.specs.Prelude.{Contains, All}
-use Rattle.std.proofs.lemmas.Bool.{cases_lt}
-use Rattle.std.proofs.lemmas.List.{get_or_past}
 use Rattle.grid_exact.specs.Geometry.{Place}
 use Rattle.grid_exact.specs.Runs.{IsEdgeOf}
 use Rattle.arc_map.specs.Vertices.{Vertex, places}

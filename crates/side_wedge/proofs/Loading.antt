@@ -25,7 +25,6 @@ use Rattle.side_wedge.specs.Obstacles.{IsObstacle}
 use Rattle.side_wedge.specs.Obstacles.IsObstacle.{Town, Vertex}
 use Rattle.grid_exact.specs.Weights.{Scales}
 use Rattle.arc_map.specs.Vertices.{places}
-use Rattle.chain_reach.specs.Reach.{IsCloseBy}
 use Rattle.chain_reach.specs.Steps.{AreStepsOf, IsNearSomeEdge}
 use Rattle.chain_reach.specs.declared.steps.Steps.{Steps}
 use Rattle.chain_reach.proofs.Numbered.{near_some_edge}

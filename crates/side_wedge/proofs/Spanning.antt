@@ -1,15 +1,14 @@
 -- The one edge of a chain between whose ends a place stands.
-use Rattle.std.proofs.Common.{◌≡◌, ◌↔◌, inl, inr, ℕ, zero, suc, ◌+◌, ◌-◌, ◌<◌, ◌≤◌, Bool, IsTrue, List, [], ◌∷◌, length, ap, ◌∙◌, subst}
+use Rattle.std.proofs.Common.{◌≡◌, ◌↔◌, inl, inr, ℕ, zero, suc, ◌+◌, ◌-◌, ◌<◌, ◌≤◌, Bool, IsTrue, List, [], ◌∷◌, length, subst}
 use Rattle.std.proofs.Common.{arith}
 use Rattle.std.proofs.lemmas.Bool.{cases_lt}
 use Rattle.grid_exact.specs.Geometry.{Place}
-use Rattle.grid_exact.specs.Walks.{EachEdge, end_of}
+use Rattle.grid_exact.specs.Walks.{EachEdge}
 use Rattle.grid_exact.specs.Frame.{IsBeforeIn}
 use Rattle.grid_exact.specs.declared.frame.Frame.{Frame}
 use Rattle.chain_side.specs.Along.{IsAlong, vertex_at}
 use Rattle.chain_side.specs.Sides.{IsMonotoneChain}
 use Rattle.chain_side.proofs.AlongOrder.{then_along, one_way}
-use Rattle.chain_side.proofs.Passed.{vertex_at-last}
 use Rattle.chain_side.proofs.Told.{runs_along, last_vertex}
 use Rattle.side_wedge.specs.Strays.{RunsAlong, IsOverEdge}
 

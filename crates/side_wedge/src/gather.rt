@@ -13,8 +13,9 @@ ghost use Rattle.side_wedge.specs.Gathered.{AreMapStrays};
 ghost use Rattle.side_wedge.specs.Strays.{RunsAlong, IsStrayItem, IsStrayOf, stray};
 
 use crate::strays::{Stray, stray_of};
-use chain_reach::{Extent, Steps, block_end, block_round, block_size, may_reach};
-use chain_reach::{next_parts, next_size, part_round};
+use chain_reach::{
+    Extent, Steps, block_end, block_round, block_size, may_reach, next_parts, next_size, part_round,
+};
 use grid_exact::{Direction, Point};
 use map_index::{IndexedMap, is_other};
 use sweep_index::{Item, Walk};

@@ -1,5 +1,5 @@
 -- The lesser end, and the share of the way from it to the part.
-use Rattle.std.proofs.Common.{pos, ◌+ℤ◌, sym, subst, w64, arith}
+use Rattle.std.proofs.Common.{sym, subst, w64, arith}
 use Rattle.std.proofs.lemmas.Int.{to_z-of_z}
 use Rattle.grid_exact.proofs.WholeLaws.{fits}
 use Rattle.chain_reach.specs.Parts.{IsLowOfPart}

@@ -1,5 +1,5 @@
 -- The corner is at these two numbers.
-use Rattle.std.proofs.Common.{ℤ, sym, subst}
+use Rattle.std.proofs.Common.{sym, subst}
 use Rattle.grid_exact.specs.Geometry.{Place}
 use Rattle.chain_reach.specs.Parts.{IsLowOfPart}
 use Rattle.chain_reach.proofs.Numbered.{point_made}

@@ -1,5 +1,4 @@
 -- What is found in the box round the block.
-use Rattle.std.proofs.Common.{arith}
 use Rattle.sweep_index.specs.Walk.{items_left}
 use Rattle.side_wedge.proofs.Gathering.{block_taken}
 use Rattle.side_wedge.proofs.gather.take_block.Goals as goal

@@ -1,5 +1,5 @@
 -- One part more.
-use Rattle.std.proofs.Common.{◌≡◌, ◌∙◌, ◌≤◌, ℕ, refl, subst, arith}
+use Rattle.std.proofs.Common.{◌≡◌, ◌∙◌, ℕ, refl, subst, arith}
 use Rattle.side_wedge.specs.Gathered.{AreStraysInParts}
 use Rattle.side_wedge.proofs.Gathering.{no_parts_taken, parts_taken}
 use Rattle.side_wedge.proofs.gather.take_parts.Goals as goal

@@ -1,5 +1,5 @@
 -- Both limits are past the start, and the left one is not on the left of the way to the right one.
-use Rattle.std.proofs.Common.{◌≡◌, Bool, true, false, IsTrue, Option, subst}
+use Rattle.std.proofs.Common.{Bool, true, false, IsTrue, Option, subst}
 use Rattle.std.specs.Prelude.{not}
 use Rattle.grid_exact.specs.Geometry.{Place}
 use Rattle.lane_kernels.specs.declared.side.Hand.TheVariants.{Left, Right}

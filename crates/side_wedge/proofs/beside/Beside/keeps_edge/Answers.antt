@@ -1,5 +1,4 @@
 -- Both rows.
-use Rattle.std.proofs.Common.{◌≡◌, IsTrue}
 use Rattle.lane_kernels.specs.declared.side.Hand.TheVariants.{Left, Right}
 use Rattle.side_wedge.proofs.Pairs.{keeps_both}
 use Rattle.side_wedge.proofs.beside.Beside.keeps_edge.Goals as goal
