@@ -37,9 +37,10 @@ impl EndTable {
     pub fn build(alloc: Global, work: &WorkMap) -> Result<EndTable, NoMemory>
         ensures { IfOk result (IsEndTable work.now.chains) }
     {
+        let count = work.chain_count() as usize;
         let mut table = EndTable {
-            places: IndexSet::new(alloc),
-            lists: Vec::new(alloc),
+            places: IndexSet::with_capacity(alloc, count)?,
+            lists: Vec::with_capacity(alloc, count)?,
         };
         for k in 0..work.chain_count() {
             let chain = work.chain(k);

@@ -3,7 +3,7 @@ use Rattle.std.proofs.Common.{◌≡◌, ◌↔◌, ℕ, ◌+◌, ◌-◌, ◌<�
 use Rattle.std.proofs.Common.{get_or-take, get_or-drop, arith}
 use Rattle.grid_exact.specs.Geometry.{Place}
 use Rattle.grid_exact.proofs.Commons.{same_place}
-use Rattle.lane_kernels.specs.Places.{number_at, place_at, EachBetween, EachPlace}
+use Rattle.lane_kernels.specs.Places.{number_at, place_at, EachBetween, EachPlace, IsFirstOff}
 
 abbrev pub part : ℕ → ℕ → List ℤ → List ℤ
 part from to numbers = take (to - from) (drop from numbers)
@@ -29,3 +29,21 @@ part_places P from to xs ys room =
           let inside : k < to - from = omega arith in
           subst P (sym (place_at-part from to xs ys k inside)) (h (from + k) (omega arith) (omega arith)),
     )
+
+-- the first place of the part that lacks a property is one of the lists, so many places further on
+pub part_first : (P : Place → Type 0) (from to : ℕ) (xs ys : List ℤ) (k : ℕ) → to ≤ length xs
+    → IsFirstOff 0 (length (part from to xs)) P (part from to xs) (part from to ys) k → IsFirstOff from to P xs ys (from + k)
+part_first P from to xs ys k room first =
+    let long : length (part from to xs) ≡ to - from = simp (length-take, length-drop) (omega arith) in
+    let high = first.high in
+    let inside : k < to - from = omega arith in
+    record {
+      low = omega arith;
+      high = omega arith;
+      off = λ here. first.off (subst P (sym (place_at-part from to xs ys k inside)) here);
+      before = λ j low below.
+          let within : j - from < to - from = omega arith in
+          let same : from + (j - from) ≡ j = omega arith in
+          subst (λ (i : ℕ). P (place_at xs ys i)) same (subst P (place_at-part from to xs ys (j - from) within)
+          (first.before (j - from) (omega arith) (omega arith)));
+    }

@@ -4,4 +4,4 @@
 
 mod run;
 
-pub use run::near_run;
+pub use run::first_far;

@@ -8,7 +8,7 @@ mod within;
 
 pub use plain::point_at;
 pub use side::{Hand, first_off_side};
-pub use within::all_within;
+pub use within::first_beyond;
 
 #[cfg(test)]
 mod tests;

@@ -43,6 +43,30 @@ pub(crate) fn each_within(
     true
 }
 
+// The least number from `from` to before `to` of a place that is not within the bound of the
+// segment ab.
+pub(crate) fn first_not_within(
+    a: Point,
+    b: Point,
+    xs: &[i64],
+    ys: &[i64],
+    from: usize,
+    to: usize,
+    bound: Bound,
+) -> Option<usize>
+    requires coordinates { AreCoordinates xs.now ys.now }
+    requires in_lists { to ≤ length xs.now }
+    ensures none { IsNone result ↔ EachBetween from to (λ p. IsWithin a b p bound) xs.now ys.now }
+    ensures first { IfSome result (IsFirstOff from to (λ p. IsWithin a b p bound) xs.now ys.now) }
+{
+    for k in from..to {
+        if !within(a, b, point_at(xs, ys, k), bound) {
+            return Some(k);
+        }
+    }
+    None
+}
+
 // The least number from `from` to before `to` of a place that is not strictly to the left of the
 // way from a to b.
 pub(crate) fn first_not_left(

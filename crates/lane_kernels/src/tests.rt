@@ -1,7 +1,7 @@
 //! Worked tests of lists of places.
 use crate::lanes::four_in_band;
 use crate::side::{Hand, first_off_side};
-use crate::within::all_within;
+use crate::within::first_beyond;
 use grid_exact::{Bound, Point};
 use std::process::Abort;
 
@@ -18,11 +18,17 @@ fn tells_distances(rt: HostRuntime) {
     let along = [0, 1, 2, 3, 4, 5, 6, 7, 8];
     let level = [0, 0, 0, 0, 0, 0, 0, 0, 2];
     let (a, b) = (at(&rt, (0, 0)), at(&rt, (8, 0)));
-    assert!(rt; !all_within(a, b, &along, &level, bound(&rt, 1)));
-    assert!(rt; all_within(a, b, &along, &level, bound(&rt, 2)));
-    assert!(rt; all_within(a, b, &[], &[], bound(&rt, 0)));
-    assert!(rt; !all_within(a, at(&rt, (2, 1)), &[1], &[10], bound(&rt, 9)));
-    assert!(rt; all_within(a, at(&rt, (2, 1)), &[1], &[10], bound(&rt, 10)));
+    assert_eq!(rt; first_beyond(a, b, &along, &level, bound(&rt, 1)), Some(8));
+    assert_eq!(rt; first_beyond(a, b, &along, &level, bound(&rt, 2)), None);
+    assert_eq!(rt; first_beyond(a, b, &[], &[], bound(&rt, 0)), None);
+    assert_eq!(rt;
+        first_beyond(a, at(&rt, (2, 1)), &[1], &[10], bound(&rt, 9)),
+        Some(0)
+    );
+    assert_eq!(rt;
+        first_beyond(a, at(&rt, (2, 1)), &[1], &[10], bound(&rt, 10)),
+        None
+    );
 }
 
 #[test]

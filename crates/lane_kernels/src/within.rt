@@ -1,25 +1,28 @@
 //! Distances from a segment.
-ghost use Rattle.std.specs.Prelude.{◌≡◌, ◌↔◌, IsTrue, length};
+ghost use Rattle.std.specs.Prelude.{◌≡◌, ◌↔◌, IsNone, IfSome, length};
 ghost use Rattle.grid_exact.specs.Geometry.{IsWithin};
-ghost use Rattle.lane_kernels.specs.Places.{AreCoordinates, EachPlace};
+ghost use Rattle.lane_kernels.specs.Places.{AreCoordinates, EachPlace, IsFirstOff};
 
 use crate::lanes::{LANES, four_in_band};
-use crate::plain::each_within;
+use crate::plain::{each_within, first_not_within};
 use grid_exact::{Bound, Point, length2, threshold};
 
 // Fewer places than this are tested one after another, which took less time there than the root
 // that the lanes need.
 const FEW: usize = 64;
 
-/// Whether each point of the lists of coordinates is within the bound of the closed segment ab. The
-/// ends a and b may be equal. All numbers are in grid units.
-pub fn all_within(a: Point, b: Point, xs: &[i64], ys: &[i64], bound: Bound) -> bool
+/// The least place, from 0, in the lists of coordinates of a point that is not within the bound of
+/// the closed segment ab; None where each is. The ends a and b may be equal. All numbers are in grid
+/// units.
+pub fn first_beyond(a: Point, b: Point, xs: &[i64], ys: &[i64], bound: Bound) -> Option<usize>
     requires { AreCoordinates xs.now ys.now }
-    ensures { IsTrue result ↔ EachPlace (λ p. IsWithin a b p bound) xs.now ys.now }
+    ensures none { IsNone result ↔ EachPlace (λ p. IsWithin a b p bound) xs.now ys.now }
+    ensures first { IfSome result
+        (IsFirstOff 0 (length xs.now) (λ p. IsWithin a b p bound) xs.now ys.now) }
 {
     let count = xs.len();
     if count < FEW {
-        return each_within(a, b, xs, ys, 0, count, bound);
+        return first_not_within(a, b, xs, ys, 0, count, bound);
     }
     let reach = threshold(length2(a, b), bound);
     let mut at = 0;
@@ -27,9 +30,9 @@ pub fn all_within(a: Point, b: Point, xs: &[i64], ys: &[i64], bound: Bound) -> b
         if !four_in_band(a, b, reach, xs, ys, at)
             && !each_within(a, b, xs, ys, at, at + LANES, bound)
         {
-            return false;
+            break;
         }
         at += LANES;
     }
-    each_within(a, b, xs, ys, at, count, bound)
+    first_not_within(a, b, xs, ys, at, count, bound)
 }

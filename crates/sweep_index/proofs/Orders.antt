@@ -1,7 +1,7 @@
 -- Offsets, columns and rows keep the order of coordinates.
-use Rattle.std.proofs.Common.{◌≡◌, ◌-◌, ◌/◌, ◌<◌, ◌≤◌, ℕ, min, ℤ, pos, negsuc, ◌≤ℤ◌, true, arith}
+use Rattle.std.proofs.Common.{◌≡◌, ◌-◌, ◌/◌, ◌^◌, ◌<◌, ◌≤◌, ℕ, min, ℤ, pos, negsuc, ◌≤ℤ◌, true, arith}
 use Rattle.std.proofs.Math.Nat.{div-mul-le_self}
-use Rattle.std.proofs.lemmas.Nat.{le-div}
+use Rattle.std.proofs.lemmas.Nat.{le-div, pow_pos}
 use Rattle.std.proofs.lemmas.Int.{ints}
 use Rattle.std.proofs.lemmas.Bool.{and_parts}
 use Rattle.std.specs.Prelude.{int_le}
@@ -27,13 +27,13 @@ pub column_rises : (g : Grid) (a b : ℤ) → a ≤ℤ b → column_of g a ≤ c
 column_rises g a b h =
     let step = offset_rises a b h in
     let less : offset_of a - g.west ≤ offset_of b - g.west = omega (arith, step) in
-    capped_rises _ _ _ (div_rises _ _ g.side g.wide less)
+    capped_rises _ _ _ (div_rises _ _ (2 ^ g.shift) (pow_pos g.shift) less)
 
 pub row_rises : (g : Grid) (a b : ℤ) → a ≤ℤ b → row_of g a ≤ row_of g b
 row_rises g a b h =
     let step = offset_rises a b h in
     let less : offset_of a - g.south ≤ offset_of b - g.south = omega (arith, step) in
-    capped_rises _ _ _ (div_rises _ _ g.side g.wide less)
+    capped_rises _ _ _ (div_rises _ _ (2 ^ g.shift) (pow_pos g.shift) less)
 
 le_from_test : (a b : ℤ) → int_le a b ≡ true → a ≤ℤ b
 le_from_test a b h = grind (arith, ints)

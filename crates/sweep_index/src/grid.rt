@@ -20,16 +20,16 @@ pub fn offset(z: i64) -> u32
     (z + MAX_COORDINATE) as u32
 }
 
-// Rows and columns of square cells, with the corner of the first one. What lies outside counts to
-// the cells at the rim.
+// Rows and columns of square cells, with the corner of the first one. A side is 2^shift grid units
+// long. What lies outside counts to the cells at the rim.
 #[derive(Clone, Copy)]
 pub struct Grid {
     west: u32,
     south: u32,
-    side: u32,
+    shift: u32,
     pub columns: u32,
     pub rows: u32,
-    pub ghost wide: { 0 < side },
+    pub ghost short: { shift < 32 },
     pub ghost some_columns: { 0 < columns },
     pub ghost some_rows: { 0 < rows },
     pub ghost few: { rows * columns ≤ 2 ^ 22 },
@@ -42,12 +42,12 @@ impl Grid {
     pub fn over(bounds: Bounds, count: usize) -> Grid {
         let width = bounds.width();
         let height = bounds.height();
-        let side = side_for(width, height, (count as u64).min(u64::from(MOST_CELLS)));
-        let (rows, columns) = few(cells_along(height, side), cells_along(width, side));
+        let shift = shift_for(width, height, (count as u64).min(u64::from(MOST_CELLS)));
+        let (rows, columns) = few(cells_along(height, shift), cells_along(width, shift));
         Grid {
             west: bounds.west,
             south: bounds.south,
-            side,
+            shift,
             columns,
             rows,
         }
@@ -59,7 +59,7 @@ impl Grid {
         ensures value { result ≡ column_of self.now x }
         ensures within { result < self.now.columns }
     {
-        (offset(x).saturating_sub(self.west) / self.side).min(self.columns - 1)
+        (offset(x).saturating_sub(self.west) >> self.shift).min(self.columns - 1)
     }
 
     // The row of a y.
@@ -68,7 +68,7 @@ impl Grid {
         ensures value { result ≡ row_of self.now y }
         ensures within { result < self.now.rows }
     {
-        (offset(y).saturating_sub(self.south) / self.side).min(self.rows - 1)
+        (offset(y).saturating_sub(self.south) >> self.shift).min(self.rows - 1)
     }
 
     // The number of the cell in this row and column.
@@ -97,12 +97,12 @@ impl Grid {
     }
 }
 
-// How many cells of this side lie along a length.
-fn cells_along(length: u32, side: u32) -> u32
-    requires { 0 < side }
+// How many cells with a side of 2^shift lie along a length.
+fn cells_along(length: u32, shift: u32) -> u32
+    requires { shift < 32 }
     ensures { 0 < result }
 {
-    (length / side).saturating_add(1)
+    (length >> shift).saturating_add(1)
 }
 
 // These rows and columns, or fewer of both where they make too many cells.
@@ -119,22 +119,23 @@ fn few(rows: u32, columns: u32) -> (u32, u32)
     (rows.min(MOST_EACH), columns.min(MOST_EACH))
 }
 
-// A side for which square cells over this width and height are not more than `count`.
-fn side_for(width: u32, height: u32, count: u64) -> u32
-    ensures { 0 < result }
+// A shift for which square cells with a side of 2^shift over this width and height are not more
+// than `count`.
+fn shift_for(width: u32, height: u32, count: u64) -> u32
+    ensures { result < 32 }
 {
-    let mut side: u32 = 1;
-    while side < 1 << 30 && cells_of(width, height, side) > count {
-        side *= 2;
+    let mut shift = 0;
+    while shift < 30 && cells_of(width, height, shift) > count {
+        shift += 1;
     }
-    side
+    shift
 }
 
-// How many cells of this side cover the width and the height.
-fn cells_of(width: u32, height: u32, side: u32) -> u64
-    requires { 0 < side }
+// How many cells with a side of 2^shift cover the width and the height.
+fn cells_of(width: u32, height: u32, shift: u32) -> u64
+    requires { shift < 32 }
 {
-    (u64::from(width / side) + 1).saturating_mul(u64::from(height / side) + 1)
+    (u64::from(width >> shift) + 1).saturating_mul(u64::from(height >> shift) + 1)
 }
 
 // A box round points, as offsets. West is past east where there is no point.

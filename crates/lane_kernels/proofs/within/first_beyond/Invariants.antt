@@ -2,7 +2,7 @@
 use Rattle.std.proofs.Common.{◌-◌, ◌≤◌, length}
 use Rattle.grid_exact.specs.Geometry.{IsWithin}
 use Rattle.lane_kernels.specs.Places.{EachBetween}
-use Rattle.lane_kernels.proofs.within.all_within.Given as goal
+use Rattle.lane_kernels.proofs.within.first_beyond.Given as goal
 
 abbrev pub invariant-loop-at : goal.invariant-loop-at
 invariant-loop-at l = record {
