@@ -14,20 +14,20 @@ use Rattle.shortcut_graph.proofs.Near.{near_run}
 use Rattle.shortcut_graph.proofs.Numbers.{length-chain_places}
 
 -- only the pair of the first vertex and the last can have a double edge
-pub double_told : (chains : List Chain) (points : List Place) (k i j : ℕ) (t d : Bool) → AreChains chains → IsClearIn chains points k
-    → i < j → j ≤ length (chain_at chains k).rest → (IsTrue d ↔ IsDoubled chains k)
-    → (IsTrue t ↔ (IsTrue d × (i ≡ 0) × (j ≡ length (chain_at chains k).rest))) → IsTrue t ↔ HasDoubleEdge chains k i j
-double_told chains points k i j t d are clear ij jm twin test =
+pub double_told : (chains : List Chain) (points : List Place) (k i j : ℕ) (t : Bool) → AreChains chains → IsClearIn chains points k
+    → i < j → j ≤ length (chain_at chains k).rest
+    → (IsTrue t ↔ ((i ≡ 0) × (j ≡ length (chain_at chains k).rest) × IsDoubled chains k)) → IsTrue t ↔ HasDoubleEdge chains k i j
+double_told chains points k i j t are clear ij jm test =
     let last = length (chain_at chains k).rest in (
       λ yes.
           let parts = test.0 yes in
-          subst (λ (n : ℕ). HasDoubleEdge chains k n j) (sym parts.1)
-          (subst (λ (n : ℕ). HasDoubleEdge chains k 0 n) (sym parts.2) (double_edge chains k (twin.0 parts.0))),
+          subst (λ (n : ℕ). HasDoubleEdge chains k n j) (sym parts.0)
+          (subst (λ (n : ℕ). HasDoubleEdge chains k 0 n) (sym parts.1) (double_edge chains k parts.2)),
       λ double.
           let ends = only_at_ends chains points k i j are clear ij jm double in
           let whole : HasDoubleEdge chains k 0 last = subst (λ (n : ℕ). HasDoubleEdge chains k n last) ends.0
           (subst (λ (n : ℕ). HasDoubleEdge chains k i n) ends.1 double) in
-          test.1 (twin.1 (doubled chains points k are clear (omega arith) whole), ends.0, ends.1),
+          test.1 (ends.0, ends.1, doubled chains points k are clear (omega arith) whole),
     )
 
 pub never_true : (t : Bool) → t ≡ false → ¬ (IsTrue t)
@@ -52,14 +52,14 @@ last_ready : (w : Work) (k : ℕ) (b : Flanks) (weights : Scales) (bound : ℤ) 
 last_ready w k b weights bound xs ys ready = omega (arith, ready.weighed.count, length-chain_places (chain_at w.chains k))
 
 -- the test of a chain that is ready
-pub double_ready : (w : Work) (k : ℕ) (b : Flanks) (weights : Scales) (bound : ℤ) (xs ys : List ℤ) (i j : ℕ) (t d : Bool)
-    → IsReady w k b weights bound xs ys → i < j → j < length xs → (IsTrue d ↔ IsDoubled w.chains k)
-    → (IsTrue t ↔ (IsTrue d × (i ≡ 0) × (j ≡ length xs - 1))) → IsTrue t ↔ HasDoubleEdge w.chains k i j
-double_ready w k b weights bound xs ys i j t d ready ij within twin test =
+pub double_ready : (w : Work) (k : ℕ) (b : Flanks) (weights : Scales) (bound : ℤ) (xs ys : List ℤ) (i j : ℕ) (t : Bool)
+    → IsReady w k b weights bound xs ys → i < j → j < length xs
+    → (IsTrue t ↔ ((i ≡ 0) × (j ≡ length xs - 1) × IsDoubled w.chains k)) → IsTrue t ↔ HasDoubleEdge w.chains k i j
+double_ready w k b weights bound xs ys i j t ready ij within test =
     let count = last_ready w k b weights bound xs ys ready in
     let last : length xs - 1 ≡ length (chain_at w.chains k).rest = omega arith in
-    double_told w.chains w.read.points k i j t d ready.chains ready.clear ij (omega arith) twin
-    (subst (λ (n : ℕ). IsTrue t ↔ (IsTrue d × (i ≡ 0) × (j ≡ n))) last test)
+    double_told w.chains w.read.points k i j t ready.chains ready.clear ij (omega arith)
+    (subst (λ (n : ℕ). IsTrue t ↔ ((i ≡ 0) × (j ≡ n) × IsDoubled w.chains k)) last test)
 
 -- a near pair without a double edge, of which it is told whether it is consistent
 pub by_sides : (w : Work) (k : ℕ) (b : Flanks) (weights : Scales) (bound : ℤ) (xs ys : List ℤ) (i j : ℕ) (P : Type 0)

@@ -1,5 +1,5 @@
 -- The pairs of a chain under search.
-use Rattle.std.specs.Prelude.{◌≡◌, ◌⊎◌, ◌↔◌, ◌+◌, ◌<◌, ℕ, ℤ, List, IsTrue, length}
+use Rattle.std.specs.Prelude.{◌≡◌, ◌⊎◌, ◌+◌, ◌<◌, ℕ, ℤ, List, length}
 use Rattle.grid_exact.specs.Weights.{Scales}
 use Rattle.lane_kernels.specs.Places.{place_at}
 use Rattle.arc_map.specs.Chains.{AreChains, chain_at, chain_places, IsClearIn}
@@ -7,7 +7,7 @@ use Rattle.arc_map.specs.Work.{Work}
 use Rattle.error_cone.specs.Courses.{RunsAlong}
 use Rattle.side_wedge.specs.Flanks.{Flanks, HoldsReach, IsBeside}
 use Rattle.shortcut_graph.specs.Weighed.{AreWeighed, IsNearRun}
-use Rattle.shortcut_graph.specs.Doubles.{IsDoubled, IsOpenPair}
+use Rattle.shortcut_graph.specs.Doubles.{IsOpenPair}
 use Rattle.shortcut_graph.specs.Hints.{AreHints}
 use Rattle.shortcut_graph.specs.declared.pairs.Findings.{Findings}
 
@@ -28,7 +28,6 @@ pub record IsReady (w : Work) (k : ℕ) (flanks : Flanks) (weights : Scales) (bo
 -- the findings are true of the chain number k, of which the lists are the coordinates
 pub record AreFindings (f : Findings) (w : Work) (k : ℕ) (xs ys : List ℤ) (bound : ℤ) : Type 0 where
   pub runs : RunsAlong f.course.direction.frame f.course.direction.rising (place_at xs ys) (length xs)
-  pub doubled : IsTrue f.is_doubled ↔ IsDoubled w.chains k
   pub true_hints : AreHints f.hints xs ys bound
 
 -- no vertex past `reach` is near from the start

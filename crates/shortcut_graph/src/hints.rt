@@ -9,8 +9,8 @@ ghost use Rattle.shortcut_graph.specs.Weighed.{IsNearRun};
 ghost use Rattle.shortcut_graph.specs.Hints.{AreHints};
 
 use crate::corridor::Corridor;
-use crate::ruler::{Ruler, culprit_between, is_far};
-use error_band::near_run;
+use crate::ruler::{Ruler, is_far};
+use error_band::first_far;
 use grid_exact::Direction;
 use lane_kernels::point_at;
 
@@ -78,11 +78,13 @@ impl Hints {
         if is_far(ruler, start, end, self.culprit) {
             return false;
         }
-        if near_run(ruler.xs, ruler.ys, start, end, ruler.bound) {
-            return true;
+        match first_far(ruler.xs, ruler.ys, start, end, ruler.bound) {
+            None => true,
+            Some(culprit) => {
+                self.culprit = culprit;
+                false
+            }
         }
-        self.culprit = culprit_between(ruler, start, end);
-        false
     }
 
     // Whether the corridor starts at `end` and lets the way from there to `start`. Where it does

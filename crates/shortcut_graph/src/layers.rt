@@ -12,7 +12,6 @@ ghost use Rattle.shortcut_graph.specs.Pairs.{AllowedBy, AreFindings, IsReach, Is
 
 use crate::corridor::direction_back;
 use crate::course::Course;
-use crate::doubles::is_doubled;
 use crate::hints::Hints;
 use crate::pairs::{Findings, allows};
 use crate::reach::reach_of;
@@ -45,7 +44,6 @@ pub fn lay(layering: &mut Layering, map: &IndexedMap, k: u32, beside: &Beside, r
     let last = map.chain(k).len() - 1;
     let mut findings = Findings {
         course: Course::of(map, k, ruler),
-        is_doubled: is_doubled(map, k),
         hints: Hints::at(ruler, direction_back(ruler), last),
     };
     layering.begin(last);

@@ -1,8 +1,10 @@
 //! Whether a pair of vertices of a chain is allowed.
 ghost use Rattle.std.specs.Prelude.{◌≡◌, ◌↔◌, ◌<◌, IsTrue, length};
+ghost use Rattle.shortcut_graph.specs.Doubles.{IsDoubled};
 ghost use Rattle.shortcut_graph.specs.Pairs.{AllowedBy, AreFindings, IsReady};
 
 use crate::course::Course;
+use crate::doubles::is_doubled;
 use crate::hints::Hints;
 use crate::ruler::Ruler;
 use map_index::IndexedMap;
@@ -12,8 +14,6 @@ use side_wedge::Beside;
 #[derive(Clone, Copy)]
 pub(crate) struct Findings {
     pub(crate) course: Course,
-    /// whether another chain is one edge between the ends of the chain
-    pub(crate) is_doubled: bool,
     pub(crate) hints: Hints,
 }
 
@@ -41,19 +41,20 @@ pub(crate) fn allows(
     if end == start + 1 {
         return true;
     }
-    if has_double(findings.is_doubled, start, end, ruler.xs.len() - 1) {
+    if !findings.hints.is_near(ruler, start, end) {
         return false;
     }
-    if !findings.hints.is_near(ruler, start, end) {
+    if has_double(map, k, start, end, ruler.xs.len() - 1) {
         return false;
     }
     beside.is_consistent(map, k, start, end)
 }
 
-// Whether an edge of another chain has both vertices as its ends. Only the first vertex of a clear
-// chain and the last may be such.
-fn has_double(is_doubled: bool, start: usize, end: usize, last: usize) -> bool
-    ensures { IsTrue result ↔ (IsTrue is_doubled × (start ≡ 0) × (end ≡ last)) }
+// Whether an edge of another chain has both vertices of chain number `k` as its ends. Only the first
+// vertex of a clear chain and the last may be such.
+fn has_double(map: &IndexedMap, k: u32, start: usize, end: usize, last: usize) -> bool
+    requires { k < length map.now.chains }
+    ensures { IsTrue result ↔ ((start ≡ 0) × (end ≡ last) × IsDoubled map.now.chains k) }
 {
-    is_doubled && start == 0 && end == last
+    start == 0 && end == last && is_doubled(map, k)
 }

@@ -20,20 +20,6 @@ pub struct Ruler<'a> {
     pub weights: Weights,
 }
 
-// A vertex strictly between i and j that is not within the bound of the segment between these two,
-// where there is one; else any.
-pub(crate) fn culprit_between(ruler: &Ruler<'_>, i: usize, j: usize) -> usize
-    requires coordinates { AreCoordinates ruler.now.xs.now ruler.now.ys.now }
-    requires in_lists { j < length ruler.now.xs.now }
-{
-    for k in i..j {
-        if is_far(ruler, i, j, k) {
-            return k;
-        }
-    }
-    i
-}
-
 // Whether the vertex k is strictly between i and j and not within the bound of the segment between
 // these two.
 pub(crate) fn is_far(ruler: &Ruler<'_>, i: usize, j: usize, k: usize) -> bool

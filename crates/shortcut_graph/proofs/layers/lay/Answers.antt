@@ -31,7 +31,7 @@ loop-start-init c =
       within = omega arith;
       known = layered_start (IsAllowedPair (IsWithinBound r.weights.x r.weights.y r.bound) w.chains w.read.points c.args.k)
           (length chain.rest) lay (began.last ∙ last) (began.front ∙ last) layer room next_room;
-      found = record { runs = c.of.ensures; doubled = c.is_doubled.ensures; true_hints = c.at.ensures };
+      found = record { runs = c.of.ensures; true_hints = c.at.ensures };
     }
 
 pub loop-start-preserved : goal.loop-start-preserved
@@ -59,7 +59,6 @@ loop-start-preserved c =
           (λ j past down. (alike j past down).1) step) held.known;
       found = record {
         runs = c.first_step-next.ensures.findings.runs;
-        doubled = c.first_step-next.ensures.findings.doubled;
         true_hints =
             c.keep.ensures;
       };

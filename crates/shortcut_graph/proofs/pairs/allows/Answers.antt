@@ -13,8 +13,8 @@ pub returns-then-has_double-clause-allowed : goal.returns-then-has_double-clause
 returns-then-has_double-clause-allowed c =
     let w = c.args.map.now in
     let r = c.args.ruler.now in
-    let double = (double_ready w c.args.k c.args.beside.now r.weights r.bound r.xs.now r.ys.now c.args.start c.args.end _ _ c.requires.ready
-    c.requires.order c.requires.within c.requires.findings.doubled c.has_double.ensures).0 c.if-has_double.true in (
+    let double = (double_ready w c.args.k c.args.beside.now r.weights r.bound r.xs.now r.ys.now c.args.start c.args.end _ c.requires.ready
+    c.requires.order c.requires.within c.has_double.ensures).0 c.if-has_double.true in (
       λ t. absurd (cc),
       λ allowed. absurd (not_by_double w c.args.k r.xs.now r.ys.now r.bound c.args.start c.args.end c.if-end-start.false double allowed),
     )
@@ -33,8 +33,8 @@ pub returns-clause-allowed : goal.returns-clause-allowed
 returns-clause-allowed c =
     let w = c.args.map.now in
     let r = c.args.ruler.now in
-    let double = double_ready w c.args.k c.args.beside.now r.weights r.bound r.xs.now r.ys.now c.args.start c.args.end _ _ c.requires.ready
-    c.requires.order c.requires.within c.requires.findings.doubled c.has_double.ensures in
+    let double = double_ready w c.args.k c.args.beside.now r.weights r.bound r.xs.now r.ys.now c.args.start c.args.end _ c.requires.ready
+    c.requires.order c.requires.within c.has_double.ensures in
     by_sides w c.args.k c.args.beside.now r.weights r.bound r.xs.now r.ys.now c.args.start c.args.end _ c.requires.ready c.requires.order
     c.requires.within c.if-end-start.false (λ has. never_true c.has_double.result c.if-has_double.false (double.1 has))
     (c.is_near.ensures.near.0 c.if-not-is_near.false) c.is_consistent.ensures.consistent c.is_consistent.ensures.near
