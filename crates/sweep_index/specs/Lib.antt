@@ -5,6 +5,8 @@ pub mod Search
 pub mod Walk
 pub mod Area
 pub mod Box
+pub mod Marks
+pub mod Dealt
 pub mod Gathered
 pub mod Things
 pub mod Meetings

@@ -141,10 +141,10 @@ fn cells_of(width: u32, height: u32, shift: u32) -> u64
 // A box round points, as offsets. West is past east where there is no point.
 #[derive(Clone, Copy)]
 pub struct Bounds {
-    west: u32,
-    south: u32,
-    east: u32,
-    north: u32,
+    pub west: u32,
+    pub south: u32,
+    pub east: u32,
+    pub north: u32,
 }
 
 impl Bounds {

@@ -5,15 +5,15 @@ use Rattle.sweep_index.proofs.edges.EdgeIndex.build.Goals as goal
 pub invariant_of-result : goal.invariant_of-result
 invariant_of-result c = record {
   high = c.band_height-height.ensures;
-  sorted = c.in_ok-things.ensures.sorted;
+  sorted = c.sorted-things.ensures.sorted;
 }
 
 pub returns : goal.returns
 returns c =
     let m = c.args.map.now in
     let height = c.band_height-height.result in
-    let things = c.in_ok-things.things.items in
-    let are = things_reordered m height c.in_ok-boxes.boxes.items things c.in_ok-things.ensures.permutation c.in_ok-boxes.ensures in
+    let things = c.sorted-things.result.items in
+    let are = things_reordered m height c.in_ok-boxes.boxes.items things c.sorted-things.ensures.permutation c.in_ok-boxes.ensures in
     record {
       pairs = pairs_are m height things c.band_height-height.ensures are;
       towns = towns_are m height things c.band_height-height.ensures are;
