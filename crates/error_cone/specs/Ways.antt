@@ -1,5 +1,5 @@
 -- Ways from a place of a chain, by how far they go across and up in the axes of the chain.
-use Rattle.std.specs.Prelude.{◌+◌, ℤ, pos, ◌+ℤ◌, ◌-ℤ◌, ◌*ℤ◌, ◌≤ℤ◌, Bool, true, false, ◌&&◌, ◌||◌, int_lt, int_le, unsigned_abs}
+use Rattle.std.specs.Prelude.{◌+◌, ◌^◌, ◌≤◌, ℤ, pos, ◌+ℤ◌, ◌-ℤ◌, ◌*ℤ◌, ◌≤ℤ◌, Bool, true, false, ◌&&◌, ◌||◌, int_lt, int_le, unsigned_abs}
 use Rattle.grid_exact.specs.Geometry.{Place}
 use Rattle.grid_exact.specs.declared.frame.Frame.{Frame}
 use Rattle.grid_exact.specs.declared.frame.Frame.TheVariants.{Plain, Turned}
@@ -22,6 +22,10 @@ is_forward w = int_lt (pos 0) w.across || (int_le (pos 0) w.across && int_lt (po
 -- the way upside down
 abbrev pub mirrored : Way → Way
 mirrored w = record { across = w.across; up = pos 0 -ℤ w.up }
+
+-- the way goes at most 2^31 across and up
+abbrev pub IsSmall : Way → Type 0
+IsSmall w = (unsigned_abs w.across ≤ 2 ^ 31) × (unsigned_abs w.up ≤ 2 ^ 31)
 
 -- of two ways that go forward, d is not steeper than the limit
 abbrev pub IsUnder : Way → Way → Type 0

@@ -1,7 +1,7 @@
 //! The cone of an error bound.
 ghost use Rattle.std.specs.Prelude.{◌↔◌, IsTrue};
 ghost use Rattle.grid_exact.specs.Geometry.{Place, IsWithin};
-ghost use Rattle.error_cone.specs.Ways.{is_forward};
+ghost use Rattle.error_cone.specs.Ways.{is_forward, IsSmall};
 
 use crate::ways::{Way, flatter, mirror, product, steepest, way_between};
 use grid_exact::{Bound, Direction, Point};
@@ -24,6 +24,8 @@ pub struct Cone {
     below: Way,
     pub ghost above_forward: { IsTrue (is_forward above) },
     pub ghost below_forward: { IsTrue (is_forward below) },
+    pub ghost above_small: { IsSmall above },
+    pub ghost below_small: { IsSmall below },
 }
 
 impl Cone {

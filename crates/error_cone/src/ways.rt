@@ -3,7 +3,7 @@ ghost use Rattle.std.specs.Prelude.{◌≡◌, ◌↔◌, ◌+ℤ◌, ◌*ℤ◌
 ghost use Rattle.std.specs.Prelude.{unsigned_abs};
 ghost use Rattle.grid_exact.specs.declared.frame.Frame.{Frame};
 ghost use Rattle.error_cone.specs.Ways.{step_of, way_of, is_forward, mirrored, IsUnder};
-ghost use Rattle.error_cone.specs.Ways.{IsUnderSquare};
+ghost use Rattle.error_cone.specs.Ways.{IsUnderSquare, IsSmall};
 
 use grid_exact::{Bound, Direction, Frame, Point};
 
@@ -62,6 +62,7 @@ pub fn steepest(way: Way, bound: Bound) -> Way
     requires up_bounded { unsigned_abs way.up ≤ 2 ^ 30 }
     requires past { bound <ℤ way.across }
     ensures forward { IsTrue (is_forward result) }
+    ensures small { IsSmall result }
     ensures limit { (d : Way) → pos 0 ≤ℤ d.across → IsUnder result d ↔ IsUnderSquare bound way d }
 {
     let reach = bound.value();
@@ -83,7 +84,10 @@ pub fn steepest(way: Way, bound: Bound) -> Way
 pub fn flatter(a: Way, b: Way) -> Way
     requires a_forward { IsTrue (is_forward a) }
     requires b_forward { IsTrue (is_forward b) }
+    requires a_small { IsSmall a }
+    requires b_small { IsSmall b }
     ensures forward { IsTrue (is_forward result) }
+    ensures small { IsSmall result }
     ensures limit { (d : Way) → pos 0 ≤ℤ d.across → IsUnder result d ↔ (IsUnder a d × IsUnder b d) }
 {
     if is_under(a, b) { b } else { a }
@@ -91,15 +95,19 @@ pub fn flatter(a: Way, b: Way) -> Way
 
 // Whether a way is not steeper than the limit, where both go forward.
 fn is_under(limit: Way, way: Way) -> bool
+    requires limit_small { IsSmall limit }
+    requires way_small { IsSmall way }
     ensures { IsTrue result ↔ IsUnder limit way }
 {
     product(way.up, limit.across) <= product(way.across, limit.up)
 }
 
-// The product of two numbers, in 128 bits.
-pub fn product(a: i64, b: i64) -> i128
+// The product of two small numbers.
+pub fn product(a: i64, b: i64) -> i64
+    requires a_small { unsigned_abs a ≤ 2 ^ 31 }
+    requires b_small { unsigned_abs b ≤ 2 ^ 31 }
     ensures value { result ≡ a *ℤ b }
-    ensures bounded { unsigned_abs result ≤ 2 ^ 126 }
+    ensures bounded { unsigned_abs result ≤ 2 ^ 62 }
 {
-    i128::from(a) * i128::from(b)
+    a * b
 }
