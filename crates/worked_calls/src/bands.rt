@@ -1,6 +1,6 @@
 //! Worked runs.
 
-use error_band::near_run;
+use error_band::first_far;
 use grid_exact::Bound;
 use std::process::Abort;
 
@@ -9,13 +9,13 @@ fn bound(rt: &impl Abort, e: u64) -> Bound {
 }
 
 #[test]
-fn tells_near_runs(rt: HostRuntime) {
+fn finds_the_first_that_is_far(rt: HostRuntime) {
     let (bump_x, bump_y) = ([0, 1, 2, 3], [0, 1, 0, 0]);
-    assert!(rt; near_run(&bump_x, &bump_y, 0, 3, bound(&rt, 1)));
-    assert!(rt; !near_run(&bump_x, &bump_y, 0, 3, bound(&rt, 0)));
-    assert!(rt; near_run(&bump_x, &bump_y, 0, 1, bound(&rt, 0)));
-    assert!(rt; near_run(&bump_x, &bump_y, 1, 3, bound(&rt, 1)));
+    assert_eq!(rt; first_far(&bump_x, &bump_y, 0, 3, bound(&rt, 1)), None);
+    assert_eq!(rt; first_far(&bump_x, &bump_y, 0, 3, bound(&rt, 0)), Some(1));
+    assert_eq!(rt; first_far(&bump_x, &bump_y, 0, 1, bound(&rt, 0)), None);
+    assert_eq!(rt; first_far(&bump_x, &bump_y, 1, 3, bound(&rt, 1)), None);
     let (past_x, past_y) = ([0, 1, 2], [0, 10, 1]);
-    assert!(rt; !near_run(&past_x, &past_y, 0, 2, bound(&rt, 9)));
-    assert!(rt; near_run(&past_x, &past_y, 0, 2, bound(&rt, 10)));
+    assert_eq!(rt; first_far(&past_x, &past_y, 0, 2, bound(&rt, 9)), Some(1));
+    assert_eq!(rt; first_far(&past_x, &past_y, 0, 2, bound(&rt, 10)), None);
 }
