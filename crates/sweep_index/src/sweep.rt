@@ -1,5 +1,5 @@
 //! The sweep over things in bands: which boxes meet.
-ghost use Rattle.std.specs.Prelude.{◌≡◌, ◌≤◌, ◌<◌, ◌∷◌, [], ℕ, true, length, slice_index_or};
+ghost use Rattle.std.specs.Prelude.{◌≡◌, ◌≤◌, ◌<◌, ◌^◌, ◌∷◌, [], ℕ, true, length, slice_index_or};
 ghost use Rattle.std.specs.Prelude.{IfSome, IfNone};
 ghost use Rattle.std.specs.List.Sorted.{IsNonDecreasingBy};
 ghost use Rattle.sweep_index.specs.Things.{key_of};
@@ -15,8 +15,9 @@ pub struct Sweep<'a> {
     // The first of these is compared with the others after it, of which so many are passed already.
     pub rest: &'a [Banded],
     pub passed: usize,
-    pub height: u32,
-    pub ghost high: { 0 < height },
+    // The bands are 2 to this power high.
+    pub shift: u32,
+    pub ghost short: { shift < 32 },
     pub ghost sorted: { IsNonDecreasingBy key_of rest.now },
 }
 
@@ -29,15 +30,15 @@ impl<'a> Sweep<'a> {
             ∷ meetings_left r.2) }
         ensures none { IfNone result (meetings_left self.entry ≡ []) }
     {
-        let height = self.height;
+        let shift = self.shift;
         let mut rest = self.rest;
         let mut passed = self.passed;
         while let Some((head, others)) = rest.split_first() {
-            if let Some(k) = first_met(head, others, passed, height) {
+            if let Some(k) = first_met(head, others, passed, shift) {
                 let after = Sweep {
                     rest,
                     passed: k + 1,
-                    height,
+                    shift,
                 };
                 return Some((*head, others[k], after));
             }
@@ -50,23 +51,23 @@ impl<'a> Sweep<'a> {
 
 // The place of the first of the others from `from` on that meets the head in this band, if one
 // does.
-fn first_met(head: &Banded, others: &[Banded], from: usize, height: u32) -> Option<usize>
-    requires high { 0 < height }
+fn first_met(head: &Banded, others: &[Banded], from: usize, shift: u32) -> Option<usize>
+    requires short { shift < 32 }
     requires sorted { IsNonDecreasingBy key_of (head.now ∷ others.now) }
     ensures within { IfSome result (λ k. (from ≤ k) × (k < length others.now)) }
     ensures found { IfSome result (λ k. (d : Banded)
-        → is_met height (head.now, slice_index_or others.now k d) ≡ true) }
+        → is_met (2 ^ shift) (head.now, slice_index_or others.now k d) ≡ true) }
     ensures none_before { IfSome result (λ n. (k : ℕ) → from ≤ k → k < n
-        → ¬ ((d : Banded) → is_met height (head.now, slice_index_or others.now k d) ≡ true)) }
+        → ¬ ((d : Banded) → is_met (2 ^ shift) (head.now, slice_index_or others.now k d) ≡ true)) }
     ensures none { IfNone result ((k : ℕ) → from ≤ k → k < length others.now
-        → ¬ ((d : Banded) → is_met height (head.now, slice_index_or others.now k d) ≡ true)) }
+        → ¬ ((d : Banded) → is_met (2 ^ shift) (head.now, slice_index_or others.now k d) ≡ true)) }
 {
     for k in from..others.len() {
         let other = &others[k];
         if is_past(head, other) {
             return None;
         }
-        if meet_here(head, other, height) {
+        if meet_here(head, other, shift) {
             return Some(k);
         }
     }
@@ -81,11 +82,11 @@ fn is_past(head: &Banded, other: &Banded) -> bool
 }
 
 // Whether the two things meet, and this band of both is the lowest such band.
-fn meet_here(head: &Banded, other: &Banded, height: u32) -> bool
-    requires { 0 < height }
-    ensures { result ≡ is_met height (head.now, other.now) }
+fn meet_here(head: &Banded, other: &Banded, shift: u32) -> bool
+    requires { shift < 32 }
+    ensures { result ≡ is_met (2 ^ shift) (head.now, other.now) }
 {
     other.band == head.band
         && (head.extent.meets(&other.extent)
-            && head.extent.south.max(other.extent.south) / height == head.band)
+            && head.extent.south.max(other.extent.south) >> shift == head.band)
 }

@@ -1,4 +1,4 @@
-use Rattle.std.proofs.Common.{◌≡◌, ◌∙◌, ◌+◌, ◌∷◌, true, ap, subst, sym}
+use Rattle.std.proofs.Common.{◌^◌, ◌≡◌, ◌∙◌, ◌+◌, ◌∷◌, true, ap, subst, sym}
 use Rattle.std.specs.List.Sorted.{IsNonDecreasingBy}
 use Rattle.sweep_index.specs.Things.{key_of}
 use Rattle.sweep_index.specs.Meetings.{is_met, meetings_from}
@@ -10,7 +10,7 @@ first_met-requires-clause-sorted c = subst (IsNonDecreasingBy key_of) c.in-Some.
 
 pub returns-in-Some-first_met-clause-steps : goal.returns-in-Some-first_met-clause-steps
 returns-in-Some-first_met-clause-steps c =
-    let height = c.args.self.height in
+    let height = 2 ^ c.args.self.shift in
     let head = c.in-Some.head.now in
     let others = c.in-Some.others.now in
     let k = c.in-Some-first_met.k in
@@ -24,7 +24,7 @@ returns-in-Some-first_met-clause-steps c =
 
 pub loop-head-preserved : goal.loop-head-preserved
 loop-head-preserved c =
-    let height = c.args.self.height in
+    let height = 2 ^ c.args.self.shift in
     let head = c.in-Some.head.now in
     let others = c.in-Some.others.now in
     record {

@@ -1,4 +1,4 @@
-use Rattle.std.proofs.Common.{◌≡◌, length}
+use Rattle.std.proofs.Common.{◌^◌, ◌≡◌, length}
 use Rattle.std.specs.List.Sorted.{IsNonDecreasingBy}
 use Rattle.sweep_index.specs.Things.{key_of}
 use Rattle.sweep_index.specs.Meetings.{meetings_from}
@@ -7,7 +7,7 @@ use Rattle.sweep_index.proofs.sweep.Sweep.next_meeting.Given as goal
 
 abbrev pub invariant-loop-head : goal.invariant-loop-head
 invariant-loop-head l = record {
-  same : meetings_left l.fn.self ≡ meetings_from l.height l.rest l.passed;
+  same : meetings_left l.fn.self ≡ meetings_from (2 ^ l.shift) l.rest l.passed;
   sorted : IsNonDecreasingBy key_of l.rest;
 }
 
