@@ -6,7 +6,7 @@ use grid_exact::Point;
 use std::alloc::{AllocError, Global};
 
 // How many edges are looked at, at most.
-const SAMPLES: usize = 1024;
+const SAMPLES: usize = 512;
 
 // The closed box round an edge.
 #[derive(Clone, Copy)]
