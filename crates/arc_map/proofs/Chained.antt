@@ -16,10 +16,10 @@ use Rattle.arc_map.specs.Clear.{IsWithinChain, EachButLast}
 use Rattle.arc_map.specs.Chains.{Chain, no_chain, chain_at, chain_places, IsOtherEdge, AreChains}
 use Rattle.arc_map.specs.Arranged.{arc_at, is_arc_end}
 use Rattle.arc_map.specs.Work.{vertex_in}
-use Rattle.arc_map.specs.Live.{live_chain, work_in, IsLive, AreInOrder, AreLive, SpansChain}
+use Rattle.arc_map.specs.Live.{chains_in, live_chain, work_in, IsLive, AreInOrder, AreLive, SpansChain, LiveChain, numbers_of}
 use Rattle.arc_map.specs.declared.refs.ChainRef.{ChainRef}
-use Rattle.arc_map.specs.declared.work.LiveChain.{LiveChain}
 use Rattle.arc_map.specs.declared.work.WorkMap.TheInside.{Inside}
+use Rattle.arc_map.proofs.Parts.{places_of}
 use Rattle.arc_map.proofs.Rising.{rising_order}
 use Rattle.arc_map.proofs.Thinning.{length_rest}
 
@@ -74,11 +74,11 @@ edge_of_live : (m : Map) (x : LiveChain) (c d : Vertex) → IsLive m x → IsEdg
     → IsFrom x.place.arc x.place.«from» x.place.to c × IsFrom x.place.arc x.place.«from» x.place.to d
 edge_of_live m x c d live edge =
     let spans = live.spans in
-    let within = recursion_from_All (λ k. (x.place.«from» ≤ k) × (k ≤ x.place.to)) x.numbers.items
-    (numbers_between x.place x.numbers.items spans) in
-    edge_from m x.place.arc x.place.«from» x.place.to x.place.«from» (drop 1 x.numbers.items) c d
+    let within = recursion_from_All (λ k. (x.place.«from» ≤ k) × (k ≤ x.place.to)) (numbers_of m x)
+    (numbers_between x.place (numbers_of m x) spans) in
+    edge_from m x.place.arc x.place.«from» x.place.to x.place.«from» (drop 1 (numbers_of m x)) c d
     (subst (AllByRecursion (λ k. (x.place.«from» ≤ k) × (k ≤ x.place.to)))
-    (first_and_rest x.numbers.items x.place.«from» spans.several spans.first) within) edge
+    (first_and_rest (numbers_of m x) x.place.«from» spans.several spans.first) within) edge
 
 but_last : (P : Vertex → Type 0) (f : ℕ → Vertex) (ns : List ℕ) → ((j : ℕ) → suc j < length ns → P (f (get_or ns j 0)))
     → EachButLast P (map f ns)
@@ -90,7 +90,7 @@ but_last P f (n ∷ k ∷ ks) each = (each 0 (omega arith), but_last P f (k ∷ 
 inner : (m : Map) (x : LiveChain) (P : Vertex → Type 0) → IsLive m x
     → ((n : ℕ) → x.place.«from» < n → n < x.place.to → P (vertex_in m x.place.arc n)) → EachButLast P (live_chain m x).rest
 inner m x P live each =
-    let numbers = x.numbers.items in
+    let numbers = (numbers_of m x) in
     let spans = live.spans in
     but_last P (vertex_in m x.place.arc) (drop 1 numbers) (λ j below.
     let count = length_rest numbers in
@@ -207,15 +207,16 @@ any_chain m cs P each none k =
 pub are_chains : (w : Inside) → AreLive w → AreChains (work_in w).chains
 are_chains w live =
     let m = w.base in
-    let cs = w.chains.items in
+    let cs = chains_in w in
     let chains = map (live_chain m) cs in
+    let order : AreInOrder (map (λ (c : LiveChain). c.place) cs) = rw (places_of w.vertices.items w.chains.items) live.in_order in
     let lives : (k : ℕ) (x : LiveChain) → k < length cs → ((d : LiveChain) → get_or cs k d ≡ x)
     → IsLive m x = λ k x here is. subst (IsLive m) (is x) (live.chains k x here) in
     record {
       monotone = any_chain m cs (λ k q. IsMonotone q.frame q.first.place (places q.rest)) (λ k x here is. (lives k x here is).one_way) (λ k.
           Increasing tt);
       one_arc = any_chain m cs (λ k q. EachEdge (λ a b. a.arc ≡ q.first.arc) q.first q.rest) (λ k x here is.
-          arcs_alike m x.place.arc x.place.«from» (drop 1 x.numbers.items)) (λ k. tt);
+          arcs_alike m x.place.arc x.place.«from» (drop 1 (numbers_of m x))) (λ k. tt);
       within = any_chain m cs (λ k q. EachButLast (IsWithinChain (IsOtherEdge chains k)) q.rest) (λ k x here is.
-          within_live m cs k x live.chains live.in_order here is (lives k x here is)) (λ k. tt);
+          within_live m cs k x live.chains order here is (lives k x here is)) (λ k. tt);
     }

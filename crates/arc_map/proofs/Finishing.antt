@@ -1,5 +1,5 @@
 -- The chains of a map in memory, joined into its arcs: they are arcs again, and those that the chains make up.
-use Rattle.std.proofs.Common.{◌≡◌, ◌≢◌, ◌∙◌, ℕ, zero, suc, ◌+◌, ◌-◌, ◌<◌, ◌≤◌, Bool, true, false, List, [], ◌∷◌, ◌++◌, cond, nat_eq, All}
+use Rattle.std.proofs.Common.{◌≡◌, ◌≢◌, ◌∙◌, ℕ, zero, suc, ◌+◌, ◌-◌, ◌<◌, ◌≤◌, Bool, true, false, List, [], ◌∷◌, ◌++◌, nat_eq, All}
 use Rattle.std.proofs.Common.{AllPairs, map, length, get_or, take, drop, set, sum_by, refl, sym, ap, subst, inl, inr, arith, append_assoc}
 use Rattle.std.proofs.Common.{length-append, length-drop}
 use Rattle.std.specs.List.{AllByRecursion}
@@ -16,11 +16,10 @@ use Rattle.arc_map.specs.Vertices.{places}
 use Rattle.arc_map.specs.Arcs.{chains_of_arc, chains_past_arc, joined_rests, joined_arc, arcs_now}
 use Rattle.arc_map.specs.Arranged.{arc_at, position_at, nowhere}
 use Rattle.arc_map.specs.Work.{vertex_in}
-use Rattle.arc_map.specs.Live.{live_chain, IsLive, AreJoined}
+use Rattle.arc_map.specs.Live.{live_chain, IsLive, AreJoined, LiveChain, numbers_of}
 use Rattle.arc_map.specs.Rejoin.{run_of, tails, rejoined}
-use Rattle.arc_map.specs.declared.work.LiveChain.{LiveChain}
 use Rattle.arc_map.proofs.Cutting.{edges_of_pairs}
-use Rattle.arc_map.proofs.Rejoining.{run_of-cons}
+use Rattle.arc_map.proofs.Rejoining.{run_of-cons, run_of-other}
 
 -- ---- one chain
 
@@ -40,23 +39,23 @@ end_place v (w ∷ ws) d = end_place w ws d
 -- the positions of a chain as a walk
 pub record IsWalk (m : Map) (c : LiveChain) : Type 0 where
   pub rest : List Place
-  pub positions : c.vertices.items ≡ position_at m c.place.arc c.place.«from» ∷ rest
+  pub positions : c.vertices ≡ position_at m c.place.arc c.place.«from» ∷ rest
   pub edges : EachEdge (λ p q. p ≢ q) (position_at m c.place.arc c.place.«from») rest
   pub last : end_of (position_at m c.place.arc c.place.«from») rest ≡ position_at m c.place.arc c.place.to
   pub short : c.place.«from» + length rest ≤ c.place.to
   pub within : c.place.to < length (arc_at m c.place.arc)
   pub chain_rest : places (live_chain m c).rest ≡ rest
 
-walk_from : (m : Map) (c : LiveChain) (n : ℕ) (ns : List ℕ) → c.numbers.items ≡ n ∷ ns → IsLive m c → IsWalk m c
+walk_from : (m : Map) (c : LiveChain) (n : ℕ) (ns : List ℕ) → (numbers_of m c) ≡ n ∷ ns → IsLive m c → IsWalk m c
 walk_from m c n ns numbers live =
     let position : ℕ → Place = position_at m c.place.arc in
     let first : n ≡ c.place.«from» = sym (ap (λ xs. get_or xs 0 0) numbers) ∙ live.spans.first in
-    let positions : c.vertices.items ≡ position c.place.«from» ∷ map position ns = live.positions ∙ ap (map position) numbers
+    let positions : c.vertices ≡ position c.place.«from» ∷ map position ns = live.positions ∙ ap (map position) numbers
     ∙ ap (λ k. position k ∷ map position ns) first in
-    let count : length c.numbers.items ≡ suc (length ns) = ap length numbers in
-    let back : length c.numbers.items - 1 ≡ length ns = omega arith in
-    let last : get_or c.numbers.items (length ns) 0 ≡ c.place.to = ap (λ k. get_or c.numbers.items k 0) (sym back) ∙ live.spans.last in
-    let gap = rising_gap c.numbers.items live.spans.rising (length ns) (omega arith) in
+    let count : length (numbers_of m c) ≡ suc (length ns) = ap length numbers in
+    let back : length (numbers_of m c) - 1 ≡ length ns = omega arith in
+    let last : get_or (numbers_of m c) (length ns) 0 ≡ c.place.to = ap (λ k. get_or (numbers_of m c) k 0) (sym back) ∙ live.spans.last in
+    let gap = rising_gap (numbers_of m c) live.spans.rising (length ns) (omega arith) in
     record {
       rest = map position ns;
       positions = positions;
@@ -65,18 +64,18 @@ walk_from m c n ns numbers live =
       last =
           sym (end_place (position c.place.«from») (map position ns) nowhere)
           ∙ ap (λ ps. get_or ps (length (map position ns)) nowhere) (sym positions ∙ live.positions)
-          ∙ ap (λ k. get_or (map position c.numbers.items) k nowhere) (length-map ns position)
-          ∙ get_or-map position c.numbers.items (length ns) 0 nowhere (omega arith)
+          ∙ ap (λ k. get_or (map position (numbers_of m c)) k nowhere) (length-map ns position)
+          ∙ get_or-map position (numbers_of m c) (length ns) 0 nowhere (omega arith)
           ∙ ap position last;
       short = let first_number = live.spans.first in omega (arith, gap, last, first_number, length-map ns position);
       within = live.lies.within;
-      chain_rest = map-map (λ v. v.place) (vertex_in m c.place.arc) (drop 1 c.numbers.items) ∙ ap (λ xs. map position (drop 1 xs)) numbers;
+      chain_rest = map-map (λ v. v.place) (vertex_in m c.place.arc) (drop 1 (numbers_of m c)) ∙ ap (λ xs. map position (drop 1 xs)) numbers;
     }
 
 pub walk_of : (m : Map) (c : LiveChain) → IsLive m c → IsWalk m c
-walk_of m c live = by_numbers c.numbers.items refl
+walk_of m c live = by_numbers (numbers_of m c) refl
   where
-    by_numbers : (xs : List ℕ) → c.numbers.items ≡ xs → IsWalk m c
+    by_numbers : (xs : List ℕ) → (numbers_of m c) ≡ xs → IsWalk m c
     by_numbers [] e = let some = live.spans.several in let none = ap length e in absurd (omega arith)
     by_numbers (n ∷ ns) e = walk_from m c n ns e live
 
@@ -131,9 +130,6 @@ of_arc number c =
       | inl same ↦ Of same.0 same.1
       | inr differs ↦ Other differs.0
     ]
-
-run_of-other : (number : ℕ) (c : LiveChain) (cs : List LiveChain) → nat_eq c.place.arc number ≡ false → run_of number (c ∷ cs) ≡ []
-run_of-other number c cs e = ap (λ b. cond b (c ∷ run_of number cs) []) e
 
 pub each_append : (P : Place → Place → Type 0) (v : Place) (ws us : List Place) → EachEdge P v ws → EachEdge P (end_of v ws) us
     → EachEdge P v (ws ++ us)
@@ -268,7 +264,7 @@ rests_are m [] walks = refl
 rests_are m (c ∷ cs) walks =
     map-append (λ v. v.place) (live_chain m c).rest (joined_rests (map (live_chain m) cs))
     ∙ ap (λ ps. ps ++ places (joined_rests (map (live_chain m) cs))) (walks.0.chain_rest ∙ sym (ap (drop 1) walks.0.positions))
-    ∙ ap (λ ps. drop 1 c.vertices.items ++ ps) (rests_are m cs walks.1)
+    ∙ ap (λ ps. drop 1 c.vertices ++ ps) (rests_are m cs walks.1)
 
 joined_is : (m : Map) (ps : List Place) (cs : List LiveChain) → AllByRecursion (IsWalk m) cs
     → joined_arc ps (map (live_chain m) cs) ≡ rejoined ps cs

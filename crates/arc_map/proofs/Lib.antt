@@ -6,6 +6,9 @@ pub mod Keeping
 pub mod Cutting
 pub mod Thinning
 pub mod Alive
+pub mod Parts
+pub mod Finding
+pub mod Shortening
 pub mod Reading
 pub mod Chained
 pub mod Listing

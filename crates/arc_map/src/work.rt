@@ -1,29 +1,29 @@
 //! A map at work: its chains as they are now, each of which can be thinned in place.
-ghost use Rattle.std.specs.Prelude.{◌≡◌, ◌≢◌, ◌+◌, ◌-◌, ◌<◌, ◌≤◌, ◌^◌, ◌++◌, All, AllPairs, IfOk};
-ghost use Rattle.std.specs.Prelude.{drop, length, map, slice_get, slice_index_or, take};
+ghost use Rattle.std.specs.Prelude.{◌≡◌, ◌≢◌, ◌+◌, ◌<◌, ◌≤◌, ◌^◌, ◌++◌, All, AllPairs, IfOk};
+ghost use Rattle.std.specs.Prelude.{length, map, slice_get, slice_index_or, slice_range, take};
 ghost use Rattle.std.specs.List.Sorted.{IsStrictlyIncreasing};
 ghost use Rattle.arc_map.specs.Arcs.{map_now};
 ghost use Rattle.arc_map.specs.Chains.{chain_at, chain_places, AreChains};
-ghost use Rattle.std.specs.List.{range_with_len};
+ghost use Rattle.arc_map.specs.Arranged.{arc_at, nowhere};
 ghost use Rattle.arc_map.specs.Ends.{EndLists, IsEndTable};
-ghost use Rattle.arc_map.specs.Live.{IsRead};
-ghost use Rattle.arc_map.specs.Rejoin.{run_of, tails, rejoined};
+ghost use Rattle.arc_map.specs.Live.{IsPartOf};
+ghost use Rattle.arc_map.specs.Rejoin.{run_from, tails, rejoined};
 ghost use Rattle.arc_map.specs.Work.{Work, work_of, LiesInArc, AreChainsIn, AreKeptIn};
 ghost use Rattle.arc_map.specs.Work.{thinned_work};
 
 use crate::map::ArcMap;
 use crate::refs::ChainRef;
 use grid_exact::{NoMemory, Point};
-use std::alloc::{AllocError, Global};
+use std::alloc::Global;
 use std::marker::Model;
 
-// A chain as it is now: its place in the map read, the numbers of its vertices in the arc as read,
-// and their positions.
-#[derive(Drop)]
-struct LiveChain {
+// A chain as it is now: its place in the map read, and where in the list of all chains' vertices its own
+// begin and end.
+#[derive(Clone, Copy)]
+struct Span {
     place: ChainRef,
-    numbers: Vec<u32>,
-    vertices: Vec<Point>,
+    start: usize,
+    end: usize,
 }
 
 /// A map whose chains can be thinned. Contracts see the map read, the places of its chains there,
@@ -32,7 +32,8 @@ struct LiveChain {
 #[derive(Drop)]
 pub struct WorkMap {
     base: ArcMap,
-    chains: Vec<LiveChain>,
+    vertices: Vec<Point>,
+    chains: Vec<Span>,
 }
 
 impl Model for WorkMap {
@@ -53,12 +54,20 @@ impl WorkMap {
         requires { AreChainsIn map chains.items }
         ensures { IfOk result (λ work. work ≡ work_of map chains.items) }
     {
+        let mut vertices = Vec::with_capacity(alloc, vertex_count(&chains))?;
         let mut live = Vec::with_capacity(alloc, chains.len())?;
         for place in &chains {
-            live.push_reserved(read_chain(alloc, &map, *place)?);
+            let start = vertices.len();
+            vertices.extend_from_slice(as_read(&map, *place))?;
+            live.push_reserved(Span {
+                place: *place,
+                start,
+                end: vertices.len(),
+            });
         }
         Ok(WorkMap {
             base: map,
+            vertices,
             chains: live,
         })
     }
@@ -84,7 +93,8 @@ impl WorkMap {
         ensures distinct { AllPairs (λ p q. p ≢ q) result.now }
         ensures chains { AreChains self.now.chains }
     {
-        self.chains[k as usize].vertices.as_slice()
+        let Span { start, end, .. } = self.chains[k as usize];
+        &self.vertices[start..end]
     }
 
     /// The place of chain number `k` in the map read: its arc, and the numbers of its first and
@@ -122,9 +132,9 @@ impl WorkMap {
         ensures ends { (table : EndLists) → IsEndTable self.old.chains table
             → IsEndTable self.new.chains table }
     {
-        let chain = &mut self.chains[k as usize];
-        keep(&mut chain.numbers, kept);
-        keep(&mut chain.vertices, kept);
+        let Span { start, end, .. } = self.chains[k as usize];
+        keep(&mut self.vertices[start..end], kept);
+        self.chains[k as usize].end = start + kept.len();
     }
 
     /// The map as it is now: its arcs are those that the chains make up, and the rest is as in the
@@ -132,11 +142,15 @@ impl WorkMap {
     pub fn finish(self) -> ArcMap
         ensures { result ≡ map_now self.read self.chains }
     {
-        let WorkMap { base, chains } = self;
+        let WorkMap {
+            base,
+            vertices,
+            chains,
+        } = self;
         let (mut arcs, points, polygons, coded) = base.into_parts();
         let mut next = 0;
         for number in 0..arcs.len() {
-            next = rejoin(&mut arcs[number], number as u32, &chains, next);
+            next = rejoin(&mut arcs[number], number as u32, &vertices, &chains, next);
         }
         ArcMap::new(arcs, points, polygons, coded)
     }
@@ -144,22 +158,30 @@ impl WorkMap {
 
 // Writes the chains of the arc, of which the first is the chain number `start`, into the arc, and
 // gives the number of the first chain behind them.
-fn rejoin(arc: &mut Vec<Point>, number: u32, chains: &[LiveChain], start: usize) -> usize
+fn rejoin(
+    arc: &mut Vec<Point>,
+    number: u32,
+    vertices: &[Point],
+    chains: &[Span],
+    start: usize,
+) -> usize
     requires known { start ≤ length chains.now }
-    requires vertices { All (λ c. 2 ≤ length c.vertices.items) chains.now }
-    requires room { 1 + length (tails (run_of number (drop start chains.now)))
+    requires within { All (IsPartOf vertices.now) chains.now }
+    requires room { 1 + length (tails (run_from number start vertices.now chains.now))
         ≤ length arc.old.items }
-    ensures arc { arc.new.items ≡ rejoined arc.old.items (run_of number (drop start chains.now)) }
-    ensures next { result ≡ start + length (run_of number (drop start chains.now)) }
+    ensures arc { arc.new.items
+        ≡ rejoined arc.old.items (run_from number start vertices.now chains.now) }
+    ensures next { result ≡ start + length (run_from number start vertices.now chains.now) }
 {
     if start == chains.len() || chains[start].place.arc != number {
         return start;
     }
-    arc[0] = chains[start].vertices[0];
+    arc[0] = vertices[chains[start].start];
     let mut end = 1;
     let mut next = start;
     while next < chains.len() && chains[next].place.arc == number {
-        let rest = &chains[next].vertices[1..];
+        let chain = chains[next];
+        let rest = &vertices[chain.start + 1..chain.end];
         write_at(arc, end, rest);
         end += rest.len();
         next += 1;
@@ -178,38 +200,33 @@ fn write_at(arc: &mut Vec<Point>, end: usize, rest: &[Point])
     arc[end..end + rest.len()].copy_from_slice(rest);
 }
 
-// The chain at this place of the map.
-fn read_chain(alloc: Global, map: &ArcMap, place: ChainRef) -> Result<LiveChain, NoMemory>
+// How many vertices the chains have in sum, unless that is more than a machine word holds.
+fn vertex_count(chains: &[ChainRef]) -> usize {
+    let mut count: usize = 0;
+    for chain in chains {
+        count = count.saturating_add(chain.to.abs_diff(chain.from) as usize + 1);
+    }
+    count
+}
+
+// The positions of the chain at this place of the map.
+fn as_read(map: &ArcMap, place: ChainRef) -> &[Point]
     requires { LiesInArc map.now place }
-    ensures { IfOk result (IsRead map.now place) }
+    ensures { result.now ≡ slice_range (arc_at map.now place.arc) place.«from» (place.to + 1) }
 {
-    let arc = map.arc(place.arc);
-    let vertices = arc[place.from as usize..place.to as usize + 1].to_vec(alloc)?;
-    let numbers = numbers_between(alloc, place.from, place.to)?;
-    Ok(LiveChain {
-        place,
-        numbers,
-        vertices,
-    })
+    &map.arc(place.arc)[place.from as usize..place.to as usize + 1]
 }
 
-// The numbers from the first to the last, both of them.
-fn numbers_between(alloc: Global, first: u32, last: u32) -> Result<Vec<u32>, AllocError>
-    requires ordered { first ≤ last }
-    requires small { last < 2 ^ 20 }
-    ensures { IfOk result (λ numbers. numbers.items ≡ range_with_len first (last + 1 - first)) }
-{
-    (first..last + 1).collect(alloc)
-}
-
-// Leaves just the elements at the places `kept`, in order.
-fn keep<T: Copy + Drop>(items: &mut Vec<T>, kept: &[u32])
+// Moves just the positions at the places `kept` to the front, in order.
+fn keep(positions: &mut [Point], kept: &[u32])
     requires rising { IsStrictlyIncreasing kept.now }
-    requires within { All (λ at. at < length items.old.items) kept.now }
-    ensures { (d : T) → items.new.items ≡ map (λ at. slice_index_or items.old.items at d) kept.now }
+    requires within { All (λ at. at < length positions.old) kept.now }
+    ensures front { take (length kept.now) positions.new
+        ≡ map (λ at. slice_index_or positions.old at nowhere) kept.now }
+    ensures count { length positions.new ≡ length positions.old }
+    ensures fewer { length kept.now ≤ length positions.old }
 {
     for (place, at) in kept.iter().enumerate() {
-        items[place] = items[*at as usize];
+        positions[place] = positions[*at as usize];
     }
-    items.truncate(kept.len());
 }

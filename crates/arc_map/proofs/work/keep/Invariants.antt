@@ -1,10 +1,10 @@
--- The front has the kept elements so far, and the rest is as it was.
-use Rattle.std.proofs.Common.{◌≡◌, ◌<◌, ◌≤◌, ℕ, length, get_or}
+-- The front has the kept positions so far, and the rest is as it was.
+use Rattle.std.proofs.Common.{◌≡◌, ◌<◌, ◌≤◌, ℕ, get_or}
+use Rattle.grid_exact.specs.Geometry.{Place}
 use Rattle.arc_map.proofs.work.keep.Given as goal
 
 abbrev pub invariant-loop-place : goal.invariant-loop-place
-invariant-loop-place g l = record {
-  length_stays : length l.items.items ≡ length l.initial.items.items;
-  front : (j : ℕ) (d : g.row.T.Denot) → j < l.place → get_or l.items.items j d ≡ get_or l.initial.items.items (get_or l.kept j 0) d;
-  behind : (j : ℕ) (d : g.row.T.Denot) → l.place ≤ j → get_or l.items.items j d ≡ get_or l.initial.items.items j d;
+invariant-loop-place l = record {
+  front : (j : ℕ) (d : Place) → j < l.place → get_or l.positions j d ≡ get_or l.fn.positions (get_or l.kept j 0) d;
+  behind : (j : ℕ) (d : Place) → l.place ≤ j → get_or l.positions j d ≡ get_or l.fn.positions j d;
 }

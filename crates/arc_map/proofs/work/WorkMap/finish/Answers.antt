@@ -6,10 +6,10 @@ use Rattle.std.proofs.lemmas.List.Elements.{recursion_from_All}
 use Rattle.arc_map.specs.Map.{Map, IsMap}
 use Rattle.arc_map.specs.Arcs.{arcs_now}
 use Rattle.arc_map.specs.Work.{Work}
-use Rattle.arc_map.specs.Live.{work_in, live_chain, IsLive, AreLive}
-use Rattle.arc_map.specs.Rejoin.{run_of, rejoined}
+use Rattle.arc_map.specs.Live.{LiveChain, chain_of, chains_in, work_in, live_chain, IsLive, AreLive}
+use Rattle.arc_map.specs.Rejoin.{run_of, run_from, rejoined}
 use Rattle.arc_map.specs.declared.work.WorkMap.TheInside.{Inside}
-use Rattle.arc_map.specs.declared.work.LiveChain.{LiveChain}
+use Rattle.arc_map.proofs.Parts.{places_of}
 use Rattle.arc_map.proofs.Elements.{mapped-at}
 use Rattle.arc_map.proofs.Finishing.{IsWalk, AreEndToEnd, walks_of, end_to_end, IsSettled, next_arc, settle_more}
 use Rattle.arc_map.proofs.work.WorkMap.finish.Goals as goal
@@ -20,18 +20,18 @@ record IsKnown (now : Work) (cs : List LiveChain) : Type 0 where
   linked : AreEndToEnd cs
   chains : map (live_chain now.read) cs ≡ now.chains
 
-known : (w : Inside) (now : Work) → work_in w ≡ now → AreLive w → IsKnown now w.chains.items
+known : (w : Inside) (now : Work) → work_in w ≡ now → AreLive w → IsKnown now (chains_in w)
 known w now view live =
-    subst (λ (v : Work). IsKnown v w.chains.items) view (record {
-      walks = walks_of w.base w.chains.items (recursion_from_All (IsLive w.base) w.chains.items live.chains);
-      linked = end_to_end w.chains.items live.joined;
+    subst (λ (v : Work). IsKnown v (chains_in w)) view (record {
+      walks = walks_of w.base (chains_in w) (recursion_from_All (IsLive w.base) (chains_in w) live.chains);
+      linked = end_to_end (chains_in w) (rw (places_of w.vertices.items w.chains.items) live.joined);
       chains = refl;
     })
 
 pub rejoin-next-requires-clause-room : goal.rejoin-next-requires-clause-room
 rejoin-next-requires-clause-room c =
     let m = c.args.self.read in
-    let cs = c.self.inside.chains.items in
+    let cs = chains_in c.self.inside in
     let vecs = c.loop-number.arcs.items in
     let arcs = map (λ arc. arc.items) vecs in
     let n = c.loop-number.number in
@@ -46,12 +46,12 @@ rejoin-next-requires-clause-room c =
     let here = mapped-at (λ arc. arc.items) vecs n c.index_mut.result.now [] (omega (arith, inside, length-map vecs (λ arc. arc.items)))
     c.index_mut.ensures.value in
     let size = ap length (sym here ∙ coming.arc) in
-    rw c.deref.ensures.value (omega (arith, size, coming.joined.room))
+    rw (c.deref.ensures.value, c.deref-in-loop-number.ensures.value) (omega (arith, size, coming.joined.room))
 
 pub loop-number-preserved : goal.loop-number-preserved
 loop-number-preserved c =
     let m = c.args.self.read in
-    let cs = c.self.inside.chains.items in
+    let cs = chains_in c.self.inside in
     let vecs = c.loop-number.arcs.items in
     let arcs = map (λ arc. arc.items) vecs in
     let n = c.loop-number.number in
@@ -61,8 +61,9 @@ loop-number-preserved c =
     let size = sym (ap (λ (w : Work). length w.read.arcs) c.self.view_is) ∙ ap (λ (v : Map). length v.arcs) c.into_parts-arcs.ensures.value
     ∙ length-map first.items (λ arc. arc.items) in
     let below : n < length m.arcs = omega (arith, size, first.ok.0, c.len-number-end.ensures, c.loop-number-test.true) in
+    let spans = length-map c.self.inside.chains.items (chain_of c.self.inside.vertices.items) in
     let old : IsSettled m cs arcs n next = record {
-      known = c.loop-number.invariant.known;
+      known = omega (arith, c.loop-number.invariant.known, spans);
       settled = c.loop-number.invariant.settled ∙ sym (ap (arcs_now 0 m.arcs) k.chains);
       left = c.loop-number.invariant.left;
       proper = c.loop-number.invariant.proper;
@@ -73,8 +74,9 @@ loop-number-preserved c =
     let inside = coming.inside in
     let here = mapped-at (λ arc. arc.items) vecs n c.index_mut.result.now [] (omega (arith, inside, length-map vecs (λ arc. arc.items)))
     c.index_mut.ensures.value in
-    let run : run_of n (drop next c.deref.result.now) ≡ run_of n (drop next cs) =
-    ap (λ ds. run_of n (drop next ds)) c.deref.ensures.value in
+    let run : run_from n next c.deref.result.now c.deref-in-loop-number.result.now ≡ run_of n (drop next cs) =
+    ap (λ vs. run_from n next vs c.deref-in-loop-number.result.now) c.deref.ensures.value
+    ∙ ap (run_from n next c.self.inside.vertices.items) c.deref-in-loop-number.ensures.value in
     let arc = c.rejoin-next.ensures.arc ∙ ap (rejoined c.index_mut.result.now.items) run
     ∙ ap (λ ps. rejoined ps (run_of n (drop next cs))) (sym here) in
     let made = map-set (λ arc. arc.items) vecs n c.rejoin-next.new.arc ∙ ap (set arcs n) arc in
@@ -82,7 +84,7 @@ loop-number-preserved c =
     let whole = subst (λ ps. IsSettled m cs ps (n + 1) c.rejoin-next.result) (sym made)
     (subst (λ r. IsSettled m cs (set arcs n (rejoined (get_or arcs n []) (run_of n (drop next cs)))) (n + 1) r) (sym result) more) in
     record {
-      known = whole.known;
+      known = let all = whole.known in omega (arith, all, spans);
       count = length-set vecs n c.rejoin-next.new.arc ∙ c.loop-number.invariant.count;
       settled = whole.settled ∙ ap (arcs_now 0 m.arcs) k.chains;
       left = whole.left;

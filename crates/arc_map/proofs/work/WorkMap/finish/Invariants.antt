@@ -2,7 +2,7 @@
 use Rattle.std.proofs.Common.{◌≡◌, ◌≤◌, ◌++◌, map, All, length, sum_by, take, drop}
 use Rattle.arc_map.specs.Map.{IsArc}
 use Rattle.arc_map.specs.Arcs.{arcs_now}
-use Rattle.arc_map.specs.Live.{live_chain}
+use Rattle.arc_map.specs.Live.{chain_of, live_chain}
 use Rattle.arc_map.proofs.work.WorkMap.finish.Given as goal
 
 abbrev pub invariant-loop-number : goal.invariant-loop-number
@@ -10,7 +10,8 @@ invariant-loop-number l = record {
   known : l.next ≤ length l.chains.items;
   count : length l.arcs.items ≡ length l.fn.self.read.arcs;
   settled : take l.number (map (λ arc. arc.items) l.arcs.items)
-      ++ arcs_now l.number (drop l.number l.fn.self.read.arcs) (map (live_chain l.fn.self.read) (drop l.next l.chains.items))
+      ++ arcs_now l.number (drop l.number l.fn.self.read.arcs)
+      (map (live_chain l.fn.self.read) (drop l.next (map (chain_of l.vertices.items) l.chains.items)))
       ≡ arcs_now 0 l.fn.self.read.arcs l.fn.self.chains;
   left : drop l.number (map (λ arc. arc.items) l.arcs.items) ≡ drop l.number l.fn.self.read.arcs;
   proper : All IsArc (map (λ arc. arc.items) l.arcs.items);

@@ -1,41 +1,81 @@
 -- The chain that is thinned is a chain again, with its kept vertices and its old ends.
-use Rattle.std.proofs.Common.{◌≡◌, ◌∙◌, ◌<◌, ℕ, List, map, length, get_or, set, drop, refl, ap, sym, subst, arith}
-use Rattle.std.proofs.lemmas.List.{length-map, length-set, map-set}
-use Rattle.std.proofs.lemmas.List.Elements.{All-set}
-use Rattle.std.proofs.Math.Seq.{map-set_same}
-use Rattle.arc_map.specs.Chains.{Chain, chain_at, no_chain, thinned}
-use Rattle.arc_map.specs.Paths.{vertices_at}
+use Rattle.std.proofs.Common.{◌≡◌, ◌∙◌, ◌+◌, ◌≤◌, List, map, length, get_or, set, take, slice_range, sym, ap, subst, arith}
+use Rattle.std.specs.Vec.{with_items}
+use Rattle.std.proofs.lemmas.List.{get_or_default, with_items_is}
+use Rattle.grid_exact.specs.Geometry.{Place}
+use Rattle.arc_map.specs.Chains.{Chain}
 use Rattle.arc_map.specs.Arranged.{nowhere}
-use Rattle.arc_map.specs.Work.{Work, AreKeptIn, thinned_work}
-use Rattle.arc_map.specs.Live.{live_chain, work_in, IsLive, AreLive}
 use Rattle.arc_map.specs.Map.{Map}
-use Rattle.arc_map.specs.declared.refs.ChainRef.{ChainRef}
-use Rattle.arc_map.specs.declared.work.LiveChain.{LiveChain}
-use Rattle.arc_map.specs.declared.work.WorkMap.TheInside.{Inside}
+use Rattle.arc_map.specs.Work.{Work, thinned_work}
+use Rattle.arc_map.specs.Live.{chain_of}
 use Rattle.arc_map.specs.Ends.{IsEndTable}
+use Rattle.arc_map.specs.declared.refs.ChainRef.{ChainRef}
+use Rattle.arc_map.specs.declared.work.Span.{Span}
+use Rattle.arc_map.proofs.Alive.{places_below, count_alike}
 use Rattle.arc_map.proofs.Ending.{ends_stay}
-use Rattle.arc_map.proofs.Elements.{of_item, mapped-at}
-use Rattle.arc_map.proofs.Alive.{IsThinned, places_below, count_alike, live_after, chain_after}
+use Rattle.arc_map.proofs.Finding.{found}
+use Rattle.arc_map.proofs.Parts.{with_part, length-with_part}
+use Rattle.arc_map.proofs.Shortening.{kept_found, length_of_part, shorter, IsShortened, shortened}
 use Rattle.arc_map.proofs.work.WorkMap.thin.Goals as goal
 
--- what is known of the chain that is thinned
-record IsFound (w : Inside) (k : ℕ) (kept : List ℕ) (x : LiveChain) : Type 0 where
-  here : k < length w.chains.items
-  live : IsLive w.base x
-  keep : AreKeptIn (live_chain w.base x) kept
-  chain : chain_at (work_in w).chains k ≡ live_chain w.base x
+pub keep-requires-clause-within : goal.keep-requires-clause-within
+keep-requires-clause-within c =
+    let w = c.self.inside in
+    let x = c.index.result.now in
+    let f = found w c.args.self.now c.args.k x c.self.view_is c.self.invariant c.requires.chain c.index.ensures in
+    let keep = kept_found w c.args.self.now c.args.k x c.args.kept.now c.self.view_is f c.requires.kept in
+    let chain = chain_of w.vertices.items x in
+    λ k d below. rw (c.deref_mut.ensures.value, count_alike w.base chain f.live)
+    (places_below w.base chain c.args.kept.now f.live keep k d below)
 
-found : (w : Inside) (now : Work) (k : ℕ) (kept : List ℕ) (x : LiveChain) → work_in w ≡ now → AreLive w → k < length now.chains
-    → AreKeptIn (chain_at now.chains k) kept → x ≡ get_or w.chains.items k x → IsFound w k kept x
-found w now k kept x view live within keep is =
-    let inside = subst (λ (v : Work). k < length v.chains) (sym view) within in
-    let here : k < length w.chains.items = omega (arith, inside, length-map w.chains.items (live_chain w.base)) in
-    let same = mapped-at (live_chain w.base) w.chains.items k x no_chain here is in
+-- the lists as they are now
+made : (c : goal.After-self-2-1) → IsShortened c.self.inside c.args.k c.args.kept.now
+    (with_items c.self.inside.vertices
+    (with_part c.deref_mut.result.now c.index.result.now.start c.index.result.now.end c.keep.new.positions)).items
+    (set c.self.inside.chains.items c.args.k (record {
+      place = c.index_mut.result.now.place;
+      start = c.index_mut.result.now.start;
+      end = c.index.result.now.start + length c.args.kept.now;
+    }))
+made c =
+    let w = c.self.inside in
+    let x = c.index.result.now in
+    let kept = c.args.kept.now in
+    let new = c.keep.new.positions in
+    let f = found w c.args.self.now c.args.k x c.self.view_is c.self.invariant c.requires.chain c.index.ensures in
+    let keep = kept_found w c.args.self.now c.args.k x kept c.self.view_is f c.requires.kept in
+    let vertices = c.deref_mut.ensures.value in
+    let slice : slice_range c.deref_mut.result.now x.start x.end ≡ slice_range w.vertices.items x.start x.end =
+    ap (λ vs. slice_range vs x.start x.end) vertices in
+    let front : take (length kept) new ≡ map (λ at. get_or (slice_range w.vertices.items x.start x.end) at nowhere) kept =
+    c.keep.ensures.front ∙ ap (λ (ps : List Place). map (λ at. get_or ps at nowhere) kept) slice in
+    let count : length new ≡ length (slice_range w.vertices.items x.start x.end) = c.keep.ensures.count ∙ ap length slice in
+    let fewer : length kept ≤ length (slice_range w.vertices.items x.start x.end) =
+    subst (λ (ps : List Place). length kept ≤ length ps) slice c.keep.ensures.fewer in
+    let same : x ≡ c.index_mut.result.now = c.index.ensures
+    ∙ get_or_default w.chains.items c.args.k x c.index_mut.result.now f.here ∙ sym c.index_mut.ensures.value in
+    let some = f.part.some in
+    let size : length (with_part c.deref_mut.result.now x.start x.end new) ≡ w.vertices.len =
+    ap (λ vs. length (with_part vs x.start x.end new)) vertices
+    ∙ length-with_part w.vertices.items x.start x.end new (omega arith) f.part.within (count ∙ length_of_part w.vertices.items x f.part)
+    ∙ sym (ap length vertices) ∙ c.deref_mut.ensures.len in
+    let written = with_items_is w.vertices (with_part c.deref_mut.result.now x.start x.end new) size in
+    subst (λ (s : Span). IsShortened w c.args.k kept (with_items w.vertices (with_part c.deref_mut.result.now x.start x.end new)).items
+    (set w.chains.items c.args.k (record { place = s.place; start = s.start; end = x.start + length kept }))) same
+    (subst (λ vs. IsShortened w c.args.k kept vs (set w.chains.items c.args.k (shorter x (length kept))))
+    (sym (written ∙ ap (λ vs. with_part vs x.start x.end new) vertices))
+    (shortened w c.args.k x kept new c.self.invariant f c.index.ensures keep front count fewer))
+
+pub invariant_of-self : goal.invariant_of-self
+invariant_of-self c =
+    let now = made c in
     record {
-      here = here;
-      live = of_item (IsLive w.base) w.chains.items k x here is live.chains;
-      keep = subst (λ (c : Chain). AreKeptIn c kept) same (subst (λ (v : Work). AreKeptIn (chain_at v.chains k) kept) (sym view) keep);
-      chain = same;
+      few = now.few;
+      joined = rw now.places c.self.invariant.joined;
+      in_order = rw now.places c.self.invariant.in_order;
+      chains = now.chains;
+      apart = now.apart;
+      within = now.within;
     }
 
 abbrev work : Map → List ChainRef → List Chain → Work
@@ -45,58 +85,11 @@ same_work : (m : Map) {refs refs' : List ChainRef} {chains chains' : List Chain}
     → work m refs chains ≡ work m refs' chains'
 same_work m p q = cc
 
-pub keep-requires-clause-within : goal.keep-requires-clause-within
-keep-requires-clause-within c =
-    let f = found c.self.inside c.args.self.now c.args.k c.args.kept.now c.index_mut-chain.result.now c.self.view_is c.self.invariant
-    c.requires.chain c.requires.kept c.index_mut-chain.ensures.value in
-    places_below c.self.inside.base c.index_mut-chain.result.now c.args.kept.now f.live f.keep
-
-pub keep-requires-2-clause-within : goal.keep-requires-2-clause-within
-keep-requires-2-clause-within c =
-    let x = c.index_mut-chain.result.now in
-    let f = found c.self.inside c.args.self.now c.args.k c.args.kept.now x c.self.view_is c.self.invariant c.requires.chain c.requires.kept
-    c.index_mut-chain.ensures.value in
-    λ k d below. rw (count_alike c.self.inside.base x f.live) (places_below c.self.inside.base x c.args.kept.now f.live f.keep k d below)
-
-pub invariant_of-self : goal.invariant_of-self
-invariant_of-self c =
-    let w = c.self.inside in
-    let x = c.index_mut-chain.result.now in
-    let y : LiveChain = record { place = x.place; numbers = c.keep.new.items; vertices = c.keep-2.new.items } in
-    let f = found w c.args.self.now c.args.k c.args.kept.now x c.self.view_is c.self.invariant c.requires.chain c.requires.kept
-    c.index_mut-chain.ensures.value in
-    let left : IsThinned x y c.args.kept.now = record { place = refl; numbers = c.keep.ensures 0; vertices = c.keep-2.ensures nowhere } in
-    let live = live_after w.base x y c.args.kept.now f.live f.keep left in
-    let place = ap (λ (v : LiveChain). v.place) c.index_mut-chain.ensures.value in
-    record {
-      few = omega (arith, c.self.invariant.few, length-set w.chains.items c.args.k y);
-      joined = rw (map-set_same (λ (v : LiveChain). v.place) w.chains.items c.args.k y x place) c.self.invariant.joined;
-      in_order = rw (map-set_same (λ (v : LiveChain). v.place) w.chains.items c.args.k y x place) c.self.invariant.in_order;
-      chains = All-set (IsLive w.base) w.chains.items c.args.k y live c.self.invariant.chains;
-    }
-
 pub returns-clause-thinned : goal.returns-clause-thinned
 returns-clause-thinned c =
-    let w = c.self.inside in
-    let x = c.index_mut-chain.result.now in
-    let y : LiveChain = record { place = x.place; numbers = c.keep.new.items; vertices = c.keep-2.new.items } in
-    let f = found w c.args.self.now c.args.k c.args.kept.now x c.self.view_is c.self.invariant c.requires.chain c.requires.kept
-    c.index_mut-chain.ensures.value in
-    let left : IsThinned x y c.args.kept.now = record { place = refl; numbers = c.keep.ensures 0; vertices = c.keep-2.ensures nowhere } in
-    let after = chain_after w.base x y c.args.kept.now f.live f.keep left in
-    let place = ap (λ (v : LiveChain). v.place) c.index_mut-chain.ensures.value in
-    let refs = map-set_same (λ (v : LiveChain). v.place) w.chains.items c.args.k y x place in
-    let chains : map (live_chain w.base) (set w.chains.items c.args.k y)
-    ≡ thinned (work_in w).chains c.args.k (vertices_at (chain_at (work_in w).chains c.args.k) (drop 1 c.args.kept.now)) =
-    map-set (live_chain w.base) w.chains.items c.args.k y ∙ ap (set (map (live_chain w.base) w.chains.items) c.args.k) (after
-    ∙ sym (ap (λ (v : Chain). record v { rest = vertices_at v (drop 1 c.args.kept.now) }) f.chain)) in
-    let now : Work = record {
-      read = w.base;
-      refs = map (λ (v : LiveChain). v.place) (set w.chains.items c.args.k y);
-      chains =
-          map (live_chain w.base) (set w.chains.items c.args.k y);
-    } in
-    subst (λ (v : Work). now ≡ thinned_work v c.args.k c.args.kept.now) c.self.view_is (same_work w.base refs chains)
+    let now = made c in
+    same_work c.self.inside.base now.places now.thinned
+    ∙ ap (λ (v : Work). thinned_work v c.args.k c.args.kept.now) c.self.view_is
 
 pub returns-clause-ends : goal.returns-clause-ends
 returns-clause-ends c = λ table is.
