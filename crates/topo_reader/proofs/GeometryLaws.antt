@@ -19,7 +19,7 @@ use Rattle.topo_reader.specs.declared.geometry.Geometry.TheVariants as geometry
 use Rattle.topo_reader.specs.Sequence.{and_then, each, list_of, required}
 use Rattle.topo_reader.specs.Positions.{position_of, origin}
 use Rattle.topo_reader.specs.Geometries.{Seen, nothing_seen, point_added, points_added, with_points, forwards, backwards, found_step}
-use Rattle.topo_reader.specs.Geometries.{step_of, Line, no_line, with_step, joined, line_from, closed, line_of, lines_of}
+use Rattle.topo_reader.specs.Geometries.{step_of, Line, no_line, with_step, joined, line_from, line_of, lines_of}
 use Rattle.topo_reader.specs.Geometries.{PolygonRead, ring_of, rings_from, rings_of, polygons_from, polygons_of, with_polygon, polygon_of}
 use Rattle.topo_reader.specs.Geometries.{with_references, geometry_header, of_kind, geometry_of, collection_of, geometry_list}
 use Rattle.topo_reader.specs.Geometries.{geometries_of, objects_from, objects_of}
