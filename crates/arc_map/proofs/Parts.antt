@@ -45,7 +45,8 @@ still_part vs more s part =
 
 -- the part that was added
 pub last_part : (vs more : List Place) (place : ChainRef)
-    → chain_of (vs ++ more) (record { place = place; start = length vs; end = length (vs ++ more) }) ≡ record { place = place; vertices = more }
+    → chain_of (vs ++ more) (record { place = place; start = length vs; end = length (vs ++ more) })
+    ≡ record { place = place; vertices = more }
 last_part vs more place =
     ap (λ ps. record { place = place; vertices = ps }) (ap (take (length (vs ++ more) - length vs)) (drop-append_seam vs more)
     ∙ take_all (length (vs ++ more) - length vs) more (omega (arith, length-append vs more)))

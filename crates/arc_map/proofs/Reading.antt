@@ -17,7 +17,8 @@ use Rattle.arc_map.specs.Vertices.{Vertex, places}
 use Rattle.arc_map.specs.Chains.{chain_places}
 use Rattle.arc_map.specs.Arranged.{arc_at, position_at, nowhere}
 use Rattle.arc_map.specs.Work.{vertex_in, chain_in, LiesInArc}
-use Rattle.arc_map.specs.Live.{chain_of, IsPartOf, places_before, number_of, numbers_of, numbered, live_chain, IsLive, IsRead, SpansChain, AreJoined, AreInOrder, LiveChain}
+use Rattle.arc_map.specs.Live.{chain_of, IsPartOf, places_before, number_of, numbers_of, numbered, live_chain, IsLive, IsRead}
+use Rattle.arc_map.specs.Live.{SpansChain, AreJoined, AreInOrder, LiveChain}
 use Rattle.arc_map.specs.declared.refs.ChainRef.{ChainRef}
 use Rattle.std.proofs.lemmas.List.Elements.{All-from_recursion}
 use Rattle.std.proofs.lemmas.List.Kept.{AllPairs-cons}

@@ -17,8 +17,8 @@ use grid_exact::{NoMemory, Point};
 use std::alloc::Global;
 use std::marker::Model;
 
-// A chain as it is now: its place in the map read, and where in the list of all chains' vertices its own
-// begin and end.
+// A chain as it is now: its place in the map read, and where in the list of the vertices of all
+// chains its own begin and end.
 #[derive(Clone, Copy)]
 struct Span {
     place: ChainRef,

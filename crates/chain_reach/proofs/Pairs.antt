@@ -1,6 +1,7 @@
 -- The law of reach for the pairs of a chain, by the numbers of their places.
 use Rattle.std.proofs.lemmas.Bool.{true≢false}
-use Rattle.std.proofs.Common.{◌≡◌, ◌⊎◌, inl, inr, Bool, true, false, ℕ, zero, suc, ◌+◌, ◌-◌, ◌<◌, ◌≤◌, List, [], ◌∷◌, ◌++◌, length, take, drop, get_or, All, ℤ}
+use Rattle.std.proofs.Common.{◌≡◌, ◌⊎◌, inl, inr, Bool, true, false, ℕ, zero, suc, ◌+◌, ◌-◌, ◌<◌, ◌≤◌, List, [], ◌∷◌, ◌++◌, length}
+use Rattle.std.proofs.Common.{take, drop, get_or, All, ℤ}
 use Rattle.std.proofs.Common.{pos, ◌+ℤ◌, ◌-ℤ◌, ◌*ℤ◌, ◌≤ℤ◌, ◌<ℤ◌, refl, ap, subst, ◌∙◌, arith}
 use Rattle.std.specs.List.{between}
 use Rattle.std.proofs.lemmas.List.{drop-map, get_or-map, length-map, take-map}
@@ -275,7 +276,8 @@ under_steps w r c n i z a b one whole room h =
     let more : pos 0 ≤ℤ (n *ℤ (w *ℤ (r +ℤ pos 1) -ℤ (c +ℤ pos 1))) = times_nonnegative n (w *ℤ (r +ℤ pos 1) -ℤ (c +ℤ pos 1))
     (omega (arith, sums)) (omega (arith, sums)) in
     let up = positive_from_times w (n *ℤ (r +ℤ pos 1) -ℤ (n *ℤ (z -ℤ a) -ℤ i *ℤ (b -ℤ a))) (omega (arith, sums)) (omega (arith, sums, u)) in
-    let down = positive_from_times w ((n *ℤ (z -ℤ a) -ℤ i *ℤ (b -ℤ a)) +ℤ n *ℤ (r +ℤ pos 1)) (omega (arith, sums)) (omega (arith, sums, l)) in
+    let down = positive_from_times w ((n *ℤ (z -ℤ a) -ℤ i *ℤ (b -ℤ a)) +ℤ n *ℤ (r +ℤ pos 1)) (omega (arith, sums))
+    (omega (arith, sums, l)) in
     record { low = omega (arith, sums); high = omega (arith, sums) }
 
 pub close_is_in_steps : CloseIsInSteps

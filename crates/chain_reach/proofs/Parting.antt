@@ -1,5 +1,6 @@
 -- What is in a part of a segment, and what is near it, on one axis.
-use Rattle.std.proofs.Common.{◌≡◌, inl, inr, [], ◌∷◌, ℕ, zero, suc, ◌+◌, ◌-◌, ◌*◌, ◌<◌, ◌≤◌, ℤ, pos, ◌+ℤ◌, ◌-ℤ◌, ◌*ℤ◌, ◌≤ℤ◌, ◌<ℤ◌, refl, sym, ap, subst, arith}
+use Rattle.std.proofs.Common.{◌≡◌, inl, inr, [], ◌∷◌, ℕ, zero, suc, ◌+◌, ◌-◌, ◌*◌, ◌<◌, ◌≤◌, ℤ, pos, ◌+ℤ◌, ◌-ℤ◌, ◌*ℤ◌, ◌≤ℤ◌, ◌<ℤ◌, refl}
+use Rattle.std.proofs.Common.{sym, ap, subst, arith}
 use Rattle.std.proofs.lemmas.Int.{ints}
 use Rattle.grid_exact.proofs.WholeLaws.{sums}
 use Rattle.grid_exact.proofs.Signs.{at_most_or_above, times_nonnegative, nonnegative_from_times, positive_from_times}
@@ -28,7 +29,8 @@ left_share p q d k c n i parts some far whole low left =
 pub low_rising : (a b : ℤ) (d q parts part : ℕ) → b ≡ a +ℤ pos d → parts * q ≤ d * part → part < parts
     → IsLowOfPart a b parts part (a +ℤ pos q)
 low_rising a b d q parts part far share some n i whole in_part =
-    let below = gone_share (pos parts) (pos q) (pos d) (pos part) n i (omega (arith, ints)) (omega (arith, ints)) whole (omega (arith, ints))
+    let below = gone_share (pos parts) (pos q) (pos d) (pos part) n i (omega (arith, ints)) (omega (arith, ints)) whole
+    (omega (arith, ints))
     in_part.from_start in
     let way : b -ℤ a ≡ pos d = omega (arith, sums) in
     let e = identity_3 n a (pos q) (λ n a q. n ⊗ (a ⊕ q) ≈ n ⊗ a ⊕ n ⊗ q) refl in
@@ -38,7 +40,8 @@ low_rising a b d q parts part far share some n i whole in_part =
 pub low_falling : (a b : ℤ) (d q parts part : ℕ) → a ≡ b +ℤ pos d → parts * q ≤ d * (parts - part - 1) → part < parts
     → IsLowOfPart a b parts part (b +ℤ pos q)
 low_falling a b d q parts part far share some n i whole in_part =
-    let below = left_share (pos parts) (pos q) (pos d) (pos (parts - part - 1)) (pos (part + 1)) n i (omega (arith, ints)) (omega (arith, ints))
+    let below = left_share (pos parts) (pos q) (pos d) (pos (parts - part - 1)) (pos (part + 1)) n i (omega (arith, ints))
+    (omega (arith, ints))
     (omega (arith, ints)) whole (omega (arith, ints)) in_part.to_end in
     let way : a -ℤ b ≡ pos d = omega (arith, sums) in
     let e = identity_4 n i b (pos q) (λ n i b q. n ⊗ (b ⊕ q) ≈ n ⊗ b ⊕ n ⊗ q) refl in
@@ -49,7 +52,8 @@ low_falling a b d q parts part far share some n i whole in_part =
 pub high_rising : (a b u : ℤ) (d q parts part : ℕ) → b ≡ a +ℤ pos d → parts * q ≤ d * (parts - part - 1) → part < parts → b ≡ u +ℤ pos q
     → IsHighOfPart a b parts part u
 high_rising a b u d q parts part far share some is n i whole in_part =
-    let below = left_share (pos parts) (pos q) (pos d) (pos (parts - part - 1)) (pos (part + 1)) n i (omega (arith, ints)) (omega (arith, ints))
+    let below = left_share (pos parts) (pos q) (pos d) (pos (parts - part - 1)) (pos (part + 1)) n i (omega (arith, ints))
+    (omega (arith, ints))
     (omega (arith, ints)) whole (omega (arith, ints)) in_part.to_end in
     let way : b -ℤ a ≡ pos d = omega (arith, sums) in
     let step : b -ℤ u ≡ pos q = omega (arith, sums) in
@@ -62,7 +66,8 @@ high_rising a b u d q parts part far share some is n i whole in_part =
 pub high_falling : (a b u : ℤ) (d q parts part : ℕ) → a ≡ b +ℤ pos d → parts * q ≤ d * part → part < parts → a ≡ u +ℤ pos q
     → IsHighOfPart a b parts part u
 high_falling a b u d q parts part far share some is n i whole in_part =
-    let below = gone_share (pos parts) (pos q) (pos d) (pos part) n i (omega (arith, ints)) (omega (arith, ints)) whole (omega (arith, ints))
+    let below = gone_share (pos parts) (pos q) (pos d) (pos part) n i (omega (arith, ints)) (omega (arith, ints)) whole
+    (omega (arith, ints))
     in_part.from_start in
     let way : a -ℤ b ≡ pos d = omega (arith, sums) in
     let step : a -ℤ u ≡ pos q = omega (arith, sums) in

@@ -50,7 +50,8 @@ apart b g h s t =
     record { low = omega (arith, sums); high = omega (arith, sums) }
 
 -- on one axis: a step to a and one to b, each times l a share along and a share of areas, where the shares along make up none
-shares_made : (l k i j s t g h q a b p v : ℤ) → l *ℤ ((a -ℤ v) -ℤ (p -ℤ v)) ≡ k *ℤ s -ℤ (g -ℤ q) → l *ℤ ((b -ℤ v) -ℤ (p -ℤ v)) ≡ k *ℤ t -ℤ (h -ℤ q)
+shares_made : (l k i j s t g h q a b p v : ℤ) → l *ℤ ((a -ℤ v) -ℤ (p -ℤ v)) ≡ k *ℤ s -ℤ (g -ℤ q)
+    → l *ℤ ((b -ℤ v) -ℤ (p -ℤ v)) ≡ k *ℤ t -ℤ (h -ℤ q)
     → j *ℤ s +ℤ i *ℤ t ≡ pos 0 → l *ℤ ((j +ℤ i) *ℤ (p -ℤ a) -ℤ i *ℤ (b -ℤ a)) ≡ j *ℤ (g -ℤ q) +ℤ i *ℤ (h -ℤ q)
 shares_made l k i j s t g h q a b p v to_a to_b none =
     let n = Variable in
@@ -164,7 +165,8 @@ by_turned r s p a b h =
     }
 
 -- a place that is less than r over a place between u and w is less than r over the higher of them
-not_above_both : (n i r z u w : ℤ) → pos 1 ≤ℤ n → pos 0 ≤ℤ i → i ≤ℤ n → (n *ℤ (z -ℤ u) -ℤ i *ℤ (w -ℤ u)) <ℤ (n *ℤ (r +ℤ pos 1)) → (u +ℤ r) <ℤ z
+not_above_both : (n i r z u w : ℤ) → pos 1 ≤ℤ n → pos 0 ≤ℤ i → i ≤ℤ n → (n *ℤ (z -ℤ u) -ℤ i *ℤ (w -ℤ u)) <ℤ (n *ℤ (r +ℤ pos 1))
+    → (u +ℤ r) <ℤ z
     → (w +ℤ r) <ℤ z → ⊥
 not_above_both n i r z u w one low high near over_u over_w =
     let e = identity_6 n i r z u w (λ n i r z u w. n ⊗ (z ⊖ u) ⊖ i ⊗ (w ⊖ u) ⊖ n ⊗ (r ⊕ Whole (pos 1))

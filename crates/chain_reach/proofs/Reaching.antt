@@ -1,5 +1,6 @@
 -- The law of reach: what would change sides is in reach of the run.
-use Rattle.std.proofs.Common.{◌≡◌, ◌⊎◌, inl, inr, Bool, true, false, List, [], ◌∷◌, ◌++◌, All, map, ℤ, zero, suc, pos, negsuc, ◌+ℤ◌, ◌-ℤ◌, ◌*ℤ◌}
+use Rattle.std.proofs.Common.{◌≡◌, ◌⊎◌, inl, inr, Bool, true, false, List, [], ◌∷◌, ◌++◌, All, map, ℤ, zero, suc, pos, negsuc, ◌+ℤ◌}
+use Rattle.std.proofs.Common.{◌-ℤ◌, ◌*ℤ◌}
 use Rattle.std.proofs.Common.{◌≤ℤ◌, ◌<ℤ◌, refl, sym, subst, ◌∙◌, append_assoc, arith}
 use Rattle.std.proofs.lemmas.Int.{ints}
 use Rattle.std.proofs.lemmas.List.Elements.{All-weaker}
@@ -362,8 +363,10 @@ not_beyond_box r p a b h (Over k m) = both_past p.y (a.y +ℤ r) p.y (b.y +ℤ r
 far_out_of_reach : (wx wy e : ℤ) (p v : Place) (ws : List Place) → IsOutOfReachBy wx wy e p v ws → IsFarBy wx wy e p v ws
 far_out_of_reach wx wy e p v ws out =
     let view = weighted wx wy in
-    each_edge_mapped (λ a b. IsBeyond (pos 2 *ℤ e) (view p) (view a) (view b)) (λ a b. ¬ (IsCloseToSegment wx wy e p a b)) (λ a b beyond close.
-    not_beyond_box (pos 2 *ℤ e) (view p) (view a) (view b) (by_in_box (pos 2 *ℤ e) (pos 2 *ℤ e) (view p) (view a) (view b) close) beyond) v ws
+    each_edge_mapped (λ a b. IsBeyond (pos 2 *ℤ e) (view p) (view a) (view b)) (λ a b. ¬ (IsCloseToSegment wx wy e p a b))
+    (λ a b beyond close.
+    not_beyond_box (pos 2 *ℤ e) (view p) (view a) (view b) (by_in_box (pos 2 *ℤ e) (pos 2 *ℤ e) (view p) (view a)
+    (view b) close) beyond) v ws
     out
 
 pub out_of_reach_is_even : OutOfReachIsEven

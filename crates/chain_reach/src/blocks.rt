@@ -70,9 +70,9 @@ pub fn next_size(
     fewer_edges(walk, start, size, steps, whole)
 }
 
-/// In how many equal parts to cut the edge that is looked round by itself, where it or each part of
-/// the one before it had `found` items in its box: in twice as many where these are many, in half as
-/// many where they are few. One where there are several edges.
+/// In how many equal parts to cut the edge that is looked round by itself, where it or each part
+/// of the one before it had `found` items in its box: in twice as many where these are many, in
+/// half as many where they are few. One where there are several edges.
 pub fn next_parts(edges: usize, parts: u32, found: usize) -> u32
     requires some { 0 < parts }
     requires few { parts ≤ 64 }

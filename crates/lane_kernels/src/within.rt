@@ -12,8 +12,8 @@ use grid_exact::{Bound, Point, length2, threshold};
 const FEW: usize = 64;
 
 /// The least place, from 0, in the lists of coordinates of a point that is not within the bound of
-/// the closed segment ab; None where each is. The ends a and b may be equal. All numbers are in grid
-/// units.
+/// the closed segment ab; None where each is. The ends a and b may be equal. All numbers are in
+/// grid units.
 pub fn first_beyond(a: Point, b: Point, xs: &[i64], ys: &[i64], bound: Bound) -> Option<usize>
     requires { AreCoordinates xs.now ys.now }
     ensures none { IsNone result ↔ EachPlace (λ p. IsWithin a b p bound) xs.now ys.now }

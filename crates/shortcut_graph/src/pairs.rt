@@ -50,8 +50,8 @@ pub(crate) fn allows(
     beside.is_consistent(map, k, start, end)
 }
 
-// Whether an edge of another chain has both vertices of chain number `k` as its ends. Only the first
-// vertex of a clear chain and the last may be such.
+// Whether an edge of another chain has both vertices of chain number `k` as its ends. Only the
+// first vertex of a clear chain and the last may be such.
 fn has_double(map: &IndexedMap, k: u32, start: usize, end: usize, last: usize) -> bool
     requires { k < length map.now.chains }
     ensures { IsTrue result ↔ ((start ≡ 0) × (end ≡ last) × IsDoubled map.now.chains k) }

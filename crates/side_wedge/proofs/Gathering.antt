@@ -210,8 +210,10 @@ pub part_taken : (frame : Frame) (rising : Bool) (chain : List Place) (k : ℕ) 
     → AreFoundInPart a b parts count steps whole block → a ≡ vertex_at chain edge → b ≡ vertex_at chain (edge + 1) → end ≡ edge + 1
     → All (IsInBox whole.low whole.high) chain → end < length chain
     → AreStraysOf frame rising chain k steps (take (end + 1 - edge) (drop edge chain)) old found new
-    → AreStraysInParts frame rising chain k steps w edge parts count old → AreStraysInParts frame rising chain k steps w edge parts (count + 1) new
-part_taken frame rising chain k steps w whole block edge end parts count a b found old new items in_block first second next box within taken to =
+    → AreStraysInParts frame rising chain k steps w edge parts count old
+    → AreStraysInParts frame rising chain k steps w edge parts (count + 1) new
+part_taken frame rising chain k steps w whole block edge end parts count a b found old new items in_block first second next box
+    within taken to =
     record {
       before = record {
         only = λ x has.

@@ -1,6 +1,6 @@
 //! Each public call of the crates that read texts, measure, index, look beside chains, test
-//! arrangement and write texts, once, on maps of few positions. The tests of those crates stand here
-//! together: a crate with tests of its own is proved twice.
+//! arrangement and write texts, once, on maps of few positions. The tests of those crates stand
+//! here together: a crate with tests of its own is proved twice.
 #![tactic(auto)]
 
 mod maps;

@@ -6,7 +6,8 @@ use Rattle.arc_map.proofs.Rejoining.{no_part, run_from-end, run_from-other, run_
 use Rattle.arc_map.proofs.Rejoining.{tails-length}
 use Rattle.arc_map.proofs.work.rejoin.Goals as goal
 use Rattle.arc_map.proofs.work.rejoin.Goals.{then-loop-next-test+else-chains-next, else-loop-next-test}
-use Rattle.arc_map.proofs.work.rejoin.Goals.{then-start-chains-via-then-start-chains, then-start-chains-via-else-start-chains+then-chains-start}
+use Rattle.arc_map.proofs.work.rejoin.Goals.{then-start-chains-via-then-start-chains}
+use Rattle.arc_map.proofs.work.rejoin.Goals.{then-start-chains-via-else-start-chains+then-chains-start}
 
 none_left : (c : goal.Joined-then-start-chains) → run_from c.args.number c.args.start c.args.vertices.now c.args.chains.now ≡ []
 none_left c =

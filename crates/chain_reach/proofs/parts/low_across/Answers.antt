@@ -11,7 +11,8 @@ returns-then-x-clause-value c =
     let a = c.args.a.x in
     let b = c.args.b.x in
     let r = c.right_by.result in
-    let made = low_rising a b c.across.result c.share.result c.args.parts c.args.part c.across.ensures c.share.ensures.low c.requires.within in
+    let made = low_rising a b c.across.result c.share.result c.args.parts c.args.part c.across.ensures c.share.ensures.low
+    c.requires.within in
     subst (IsLowOfPart a b c.args.parts c.args.part) (sym (to_z-of_z w64 r (omega (arith, fits))))
     (subst (IsLowOfPart a b c.args.parts c.args.part) (sym c.right_by.ensures) made)
 

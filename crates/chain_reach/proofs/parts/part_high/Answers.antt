@@ -19,4 +19,5 @@ returns-clause-up c =
     let b = c.mirrored-2.ensures in
     subst (IsHighOfPart c.args.a.y c.args.b.y c.args.parts c.args.part) (sym made.1)
     (subst (λ (p : Place). IsHighOfPart p.x c.args.b.y c.args.parts c.args.part c.high_across-2.result) a
-    (subst (λ (q : Place). IsHighOfPart c.mirrored.result.x q.x c.args.parts c.args.part c.high_across-2.result) b c.high_across-2.ensures.value))
+    (subst (λ (q : Place). IsHighOfPart c.mirrored.result.x q.x c.args.parts c.args.part c.high_across-2.result) b
+    c.high_across-2.ensures.value))

@@ -19,4 +19,5 @@ returns-clause-up c =
     let b = c.mirrored-2.ensures in
     subst (IsLowOfPart c.args.a.y c.args.b.y c.args.parts c.args.part) (sym made.1)
     (subst (λ (p : Place). IsLowOfPart p.x c.args.b.y c.args.parts c.args.part c.low_across-2.result) a
-    (subst (λ (q : Place). IsLowOfPart c.mirrored.result.x q.x c.args.parts c.args.part c.low_across-2.result) b c.low_across-2.ensures.value))
+    (subst (λ (q : Place). IsLowOfPart c.mirrored.result.x q.x c.args.parts c.args.part c.low_across-2.result) b
+    c.low_across-2.ensures.value))

@@ -10,7 +10,8 @@ pub returns-clause-strays : goal.returns-clause-strays
 returns-clause-strays c t to =
     let s = c.args.subject.now in
     let a : get_or s.chain.now c.args.start c.index-subject-start.result ≡ vertex_at s.chain.now c.args.start =
-    sym c.index-subject-start.is ∙ get_or_read s.chain.now c.args.start c.index-subject-start.result (omega arith) c.index-subject-start.is _
+    sym c.index-subject-start.is ∙ get_or_read s.chain.now c.args.start c.index-subject-start.result
+    (omega arith) c.index-subject-start.is _
     in
     let b : get_or s.chain.now c.args.end c.index-subject-end.result ≡ vertex_at s.chain.now (c.args.start + 1) =
     sym c.index-subject-end.is ∙ get_or_read s.chain.now c.args.end c.index-subject-end.result c.requires.within c.index-subject-end.is _
