@@ -17,6 +17,8 @@ TOP = pathlib.Path(__file__).resolve().parent.parent
 ARCHITECTURE = TOP / "docs/ARCHITECTURE.md"
 CRATE_PAGES = ("docs/ARCHITECTURE.md", "docs/PROMISES.md")
 WIDEST = {".rt": 100, ".antt": 140}
+# A program whose edits are those of the library under it, `row_reader`.
+WITHOUT_EDITS = {"worked_rows"}
 OUTSIDE = re.compile(r"\.\./shared|\bprototypes?/")
 LINK = re.compile(r"\[[^\]]*\]\(([^)\s]+)\)")
 HEADING = re.compile(r"^#+ +(.*)$", re.MULTILINE)
@@ -113,6 +115,8 @@ def roots() -> Iterator[str]:
 def edits() -> Iterator[str]:
     """Each crate has three to five edits that the prover has to refuse."""
     for name in crates():
+        if name in WITHOUT_EDITS:
+            continue
         count = len(list((TOP / "crates" / name / "must-fail").glob("*.edit")))
         if not 3 <= count <= 5:
             yield f"crates/{name} has {count} must-fail edits, and 3 to 5 are wanted"
